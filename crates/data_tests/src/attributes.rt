@@ -91,14 +91,14 @@ fn pairs_ascend_by_key_and_then_by_value(rt: HostRuntime) {
 
 /// What a specifier and a verifier answer to a pair, and the verifier to its key; and how many pairs
 /// and keys there are then.
-type Told = ([Answer; 3], [usize; 3]);
+type Outcome = ([Answer; 3], [usize; 3]);
 
-fn told(
+fn outcome(
     mut specifier: AttributeSpecifier,
     mut verifier: AttributeVerifier,
     key: &str,
     value: &str,
-) -> Told {
+) -> Outcome {
     let defined = define(&mut specifier, key, value);
     let required = require(&mut verifier, key, value);
     let key = require_key(&mut verifier, key);
@@ -135,18 +135,18 @@ const LENGTHS: &[(usize, usize, Answer, Answer)] = &[
     (1, 257, Err(AttributeError::ValueLength), Ok(())),
 ];
 
-/// What is told of texts of so many characters where there is nothing.
-fn told_of_lengths(rt: &impl Abort, alloc: Global, key: usize, value: usize) -> Told {
+/// What is known of texts of so many characters where there is nothing.
+fn outcome_of_lengths(rt: &impl Abort, alloc: Global, key: usize, value: usize) -> Outcome {
     let key = repeated(rt, alloc, "k", key);
     let value = repeated(rt, alloc, "v", value);
     let specifier = AttributeSpecifier::new(alloc);
-    told(specifier, AttributeVerifier::new(alloc), &key, &value)
+    outcome(specifier, AttributeVerifier::new(alloc), &key, &value)
 }
 
 #[test]
 fn the_key_is_tested_before_the_value(rt: HostRuntime) {
     for &(key, value, of_pair, of_key) in LENGTHS {
-        let (found, _) = told_of_lengths(&rt, rt.alloc(), key, value);
+        let (found, _) = outcome_of_lengths(&rt, rt.alloc(), key, value);
         let wanted = [of_pair, of_pair, of_key];
         assert_same(&rt, (key, value, found), (key, value, wanted));
     }
@@ -191,18 +191,18 @@ fn fill(
     }
 }
 
-/// What is told of a pair and a key where there are 64.
-fn told_where_full(rt: &impl Abort, alloc: Global, key: &str, value: &str) -> Told {
+/// What is known of a pair and a key where there are 64.
+fn outcome_where_full(rt: &impl Abort, alloc: Global, key: &str, value: &str) -> Outcome {
     let mut specifier = AttributeSpecifier::new(alloc);
     let mut verifier = AttributeVerifier::new(alloc);
     fill(rt, alloc, &mut specifier, &mut verifier);
-    told(specifier, verifier, key, value)
+    outcome(specifier, verifier, key, value)
 }
 
 #[test]
 fn there_are_64_pairs_and_keys_at_most(rt: HostRuntime) {
     for &(key, value, of_pair, of_key) in FULL {
-        let found = told_where_full(&rt, rt.alloc(), key, value);
+        let found = outcome_where_full(&rt, rt.alloc(), key, value);
         let wanted = ([of_pair, of_pair, of_key], [64, 64, 64]);
         assert_same(&rt, (key, value, found), (key, value, wanted));
     }

@@ -124,7 +124,7 @@ pub fn append(log: &mut Handle<'_>) -> Result<(), LogError> {
     answer
 }
 
-/// Takes over the next entry, and tells whether it is the lock; `None` where there is none.
+/// Takes over the next entry, and returns whether it is the lock; `None` where there is none.
 fn take_next(log: &mut Handle<'_>) -> Result<Option<bool>, LogError> {
     match log.next() {
         Ok(Some(entry)) => {

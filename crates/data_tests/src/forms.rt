@@ -275,16 +275,16 @@ fn reading_by(
 type Tried = (u32, u32);
 
 /// Whether the form that is tried tells its creator, the node 7.
-type TellsCreator = bool;
+type HasCreator = bool;
 
 /// That form, and what a reader has to make of it with this byte in that place.
 fn form_and_wanted(
     rt: &impl Abort,
     alloc: Global,
-    tells_creator: TellsCreator,
+    has_creator: HasCreator,
     (place, byte): (usize, u8),
 ) -> (Vec<u8>, Reading) {
-    if tells_creator {
+    if has_creator {
         (
             creators::form_by_seven(rt, alloc),
             creators::wanted_by(place, byte),
@@ -299,10 +299,10 @@ fn form_and_wanted(
 fn tried(
     rt: &impl Abort,
     alloc: Global,
-    tells_creator: TellsCreator,
+    has_creator: HasCreator,
     (place, byte): (usize, u8),
 ) -> Tried {
-    let (form, wanted) = form_and_wanted(rt, alloc, tells_creator, (place, byte));
+    let (form, wanted) = form_and_wanted(rt, alloc, has_creator, (place, byte));
     match reading_by(rt, alloc, form, place, byte) {
         Some(found) => {
             assert_same(rt, (place, byte, found), (place, byte, wanted));
@@ -318,10 +318,10 @@ fn added(one: Tried, other: Tried) -> Tried {
 }
 
 /// Tries it with all bytes in that place.
-fn all_tried(rt: &impl Abort, alloc: Global, tells_creator: TellsCreator, place: usize) -> Tried {
+fn all_tried(rt: &impl Abort, alloc: Global, has_creator: HasCreator, place: usize) -> Tried {
     let mut count = (0, 0);
     for byte in 0..256u32 {
-        let tried = tried(rt, alloc, tells_creator, (place, byte as u8));
+        let tried = tried(rt, alloc, has_creator, (place, byte as u8));
         count = added(count, tried);
     }
     count
@@ -331,12 +331,12 @@ fn all_tried(rt: &impl Abort, alloc: Global, tells_creator: TellsCreator, place:
 fn tried_everywhere(
     rt: &impl Abort,
     alloc: Global,
-    tells_creator: TellsCreator,
+    has_creator: HasCreator,
     places: usize,
 ) -> Tried {
     let mut count = (0, 0);
     for place in 0..places {
-        count = added(count, all_tried(rt, alloc, tells_creator, place));
+        count = added(count, all_tried(rt, alloc, has_creator, place));
     }
     count
 }

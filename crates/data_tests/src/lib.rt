@@ -1,5 +1,4 @@
-//! Tests of attributes, names, settings, the byte forms, logs, nodes and what is printed of a world, with values from
-//! outside the program.
+//! Tests of attributes, names, settings, the byte forms, logs and nodes, with values from outside the program.
 //!
 //! Of SHA-1 and the byte form, vectors of other programs. Of a form of 67 bytes with one byte changed, whether it
 //! is malformed or another description's: 13,387 of 17,085 lists are, and of a form of 75 bytes with a creator
@@ -33,5 +32,3 @@ mod memory_logs;
 mod nodes;
 #[cfg(test)]
 mod support;
-#[cfg(test)]
-mod views;

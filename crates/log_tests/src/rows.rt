@@ -13,17 +13,17 @@ use iceoryx2_commands::command::{Command, How, Reply};
 use iceoryx2_description::config::Config;
 use iceoryx2_log::entry::Entry;
 use iceoryx2_log::memory::MemoryLog;
-use iceoryx2_script::script::{Faulty, FaultyService};
 use iceoryx2_session::session::Session;
 use iceoryx2_table::table::Step;
+use iceoryx2_testing::script::{Faulty, FaultyService};
 use iceoryx2_world::listing;
 use plain_table::body::Body;
 use plain_table::places::Places;
 use plain_table::plain::Plain;
 use std::alloc::Global;
 use std::process::Abort;
-use test_support::listing::{Row, Segment, only_one};
-use test_support::refusals::{Word, said};
+use test_support::listing::{RowSummary, Segment, only_one};
+use test_support::refusals::{Word, pattern_and_reason};
 
 /// Before which accesses of node 1 the node 7 of another does what.
 type Plan = &'static [(&'static [usize], &'static [Doing])];
@@ -40,8 +40,8 @@ type Replies = (Reply, Reply, Reply);
 /// That, what is listed after the call and in the end, and all entries.
 type Seen = (
     Replies,
-    Vec<listing::Entry>,
-    Vec<listing::Entry>,
+    Vec<listing::ListedService>,
+    Vec<listing::ListedService>,
     Vec<Entry>,
 );
 
@@ -122,7 +122,7 @@ fn seen(
     alloc: Global,
     case: Case,
     (access, append, hold): (u64, u64, u64),
-) -> (Replies, Vec<listing::Entry>, Accesses) {
+) -> (Replies, Vec<listing::ListedService>, Accesses) {
     let (wanted, accesses, mut log) = wanted(rt, alloc, case, access);
     log.set_refused(granted(rt, [append].to_vec(alloc)));
     log.set_busy(granted(rt, [hold].to_vec(alloc)));
@@ -139,7 +139,7 @@ pub fn answer_of(rt: &impl Abort, reply: &Reply) -> Answer {
     match reply {
         Reply::Opened { slot: _, number } => Ok(*number),
         Reply::Refused(refusal) => {
-            let (_, (_, _, word)) = said(*refusal);
+            let (_, (_, _, word)) = pattern_and_reason(*refusal);
             Err(word)
         }
         _ => panic!(rt; "no answer to a call"),
@@ -147,7 +147,7 @@ pub fn answer_of(rt: &impl Abort, reply: &Reply) -> Answer {
 }
 
 /// How node 1 calls, beside what, what it is answered, how many accesses it makes, and what is listed then.
-type Beside = (How, Plan, Answer, u64, (Row, Segment));
+type Beside = (How, Plan, Answer, u64, (RowSummary, Segment));
 
 /// A lock of another, before the look and between the look and the lock. A service of another in the same places, and a
 /// segment that it left. A service that another leaves, takes away and replaces before its segment is opened; six
@@ -158,84 +158,84 @@ const BESIDE: &[Beside] = &[
         &[(&[1], &[Lock])],
         Err(Word::HangsInCreation),
         2,
-        (Row::Locked(0), None),
+        (RowSummary::Locked(0), None),
     ),
     (
         How::Create,
         &[(&[4], &[Lock])],
         Err(Word::IsBeingCreatedByAnotherInstance),
         5,
-        (Row::Locked(0), None),
+        (RowSummary::Locked(0), None),
     ),
     (
         How::Open,
         &[(&[1], &[Lock])],
         Err(Word::HangsInCreation),
         2,
-        (Row::Locked(0), None),
+        (RowSummary::Locked(0), None),
     ),
     (
         How::OpenOrCreate,
         &[(&[5], &[Lock])],
         Err(Word::HangsInCreation),
         8,
-        (Row::Locked(0), None),
+        (RowSummary::Locked(0), None),
     ),
     (
         How::Create,
         &[(&[1], PUBLISHED)],
         Err(Word::AlreadyExists),
         2,
-        (Row::Published(0), Some((0, 36, 1, false))),
+        (RowSummary::Published(0), Some((0, 36, 1, false))),
     ),
     (
         How::Create,
         &[(&[4], PUBLISHED)],
         Err(Word::AlreadyExists),
         5,
-        (Row::Published(0), Some((0, 36, 1, false))),
+        (RowSummary::Published(0), Some((0, 36, 1, false))),
     ),
     (
         How::Create,
         &[(&[1], &[Lock, Make(5), RemoveDescription])],
         Ok(1),
         8,
-        (Row::Published(1), Some((1, 2, 1, false))),
+        (RowSummary::Published(1), Some((1, 2, 1, false))),
     ),
     (
         How::OpenOrCreate,
         &[(&[5], PUBLISHED)],
         Ok(0),
         12,
-        (Row::Published(0), Some((0, 36, 2, false))),
+        (RowSummary::Published(0), Some((0, 36, 2, false))),
     ),
     (
         How::Open,
         &[(&[1], PUBLISHED), (&[4], &[Leave])],
         Err(Word::IsMarkedForDestruction),
         5,
-        (Row::Published(0), Some((0, 36, 0, true))),
+        (RowSummary::Published(0), Some((0, 36, 0, true))),
     ),
     (
         How::Open,
         &[(&[1], PUBLISHED), (&[4], &[Leave, RemoveSegment])],
         Err(Word::ServiceInCorruptedState),
         5,
-        (Row::Published(0), None),
+        (RowSummary::Published(0), None),
     ),
     (
         How::Open,
         &[(&[1], PUBLISHED), (&[4], REPLACED)],
         Ok(1),
         11,
-        (Row::Published(1), Some((1, 2, 2, false))),
+        (RowSummary::Published(1), Some((1, 2, 2, false))),
     ),
     (
         How::Open,
         &[(&[1], PUBLISHED), (&[4, 11, 18, 25, 32, 39], REPLACED)],
         Err(Word::ServiceInCorruptedState),
         42,
-        (Row::Published(6), Some((6, 2, 1, false))),
+        (RowSummary::Published(6), Some((6, 2, 1, false))),
     ),
 ];
 

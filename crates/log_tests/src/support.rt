@@ -218,7 +218,11 @@ pub fn journal_of(rt: &impl Abort, alloc: Global, log: MemoryLog) -> Journal<Mem
 }
 
 /// What a process with no node of its own lists that has these entries.
-pub fn listed_anew(rt: &impl Abort, alloc: Global, entries: Vec<Entry>) -> Vec<listing::Entry> {
+pub fn listed_anew(
+    rt: &impl Abort,
+    alloc: Global,
+    entries: Vec<Entry>,
+) -> Vec<listing::ListedService> {
     let log = MemoryLog::from_entries(alloc, entries, 0);
     let mut journal = Journal::starting_at(alloc, log, Vec::new(alloc), 0);
     journal.refresh();

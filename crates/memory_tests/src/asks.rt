@@ -6,13 +6,13 @@ use iceoryx2_attribute::attribute::{AttributeSpecifier, AttributeVerifier};
 use iceoryx2_builder::builder::{self, Node, event, publish_subscribe, request_response};
 use iceoryx2_description::config::Config;
 use iceoryx2_description::time::Time;
-use iceoryx2_script::script::{Faulty, FaultyService};
 use iceoryx2_table::local::Local;
 use iceoryx2_table::table::Table;
+use iceoryx2_testing::script::{Faulty, FaultyService};
 use iceoryx2_types::types::ZeroCopySend;
 use std::alloc::Global;
 use test_support::calls::{Ask, Called, Calls};
-use test_support::refusals::{By, Said, Word, said};
+use test_support::refusals::{By, Reason, Word, pattern_and_reason};
 
 /// A table whose accesses are counted, of which chosen ones are refused.
 pub type Counted = Faulty<Table>;
@@ -22,7 +22,7 @@ pub type Over = FaultyService<Local>;
 
 /// What a call answers.
 #[derive(Clone, Copy, Debug, PartialEq, Eq)]
-pub enum Told {
+pub enum Answer {
     Granted,
     /// There was no memory, says an open error.
     OpenOutOfMemory,
@@ -41,32 +41,32 @@ pub enum Told {
     Other,
 }
 
-/// What a refusal tells.
-pub fn told_by((_, by, word): Said) -> Told {
+/// What a refusal answers.
+pub fn answer_by((_, by, word): Reason) -> Answer {
     match (by, word) {
-        (By::Open, Word::OutOfMemory) => Told::OpenOutOfMemory,
-        (By::Create, Word::OutOfMemory) => Told::CreateOutOfMemory,
-        (By::Open, Word::IncompatibleAttributes) => Told::IncompatibleAttributes,
-        (By::Open, Word::DoesNotSupportRequestedAmountOfNodes) => Told::TooFewNodes,
-        (By::Open, Word::ExceedsMaxNumberOfNodes) => Told::Full,
-        (By::Open, Word::DoesNotExist) => Told::DoesNotExist,
-        (By::Create, Word::AlreadyExists) => Told::AlreadyExists,
-        (_, Word::ServiceInCorruptedState) => Told::ServiceInCorruptedState,
-        (_, Word::InternalFailure) => Told::InternalFailure,
-        _ => Told::Other,
+        (By::Open, Word::OutOfMemory) => Answer::OpenOutOfMemory,
+        (By::Create, Word::OutOfMemory) => Answer::CreateOutOfMemory,
+        (By::Open, Word::IncompatibleAttributes) => Answer::IncompatibleAttributes,
+        (By::Open, Word::DoesNotSupportRequestedAmountOfNodes) => Answer::TooFewNodes,
+        (By::Open, Word::ExceedsMaxNumberOfNodes) => Answer::Full,
+        (By::Open, Word::DoesNotExist) => Answer::DoesNotExist,
+        (By::Create, Word::AlreadyExists) => Answer::AlreadyExists,
+        (_, Word::ServiceInCorruptedState) => Answer::ServiceInCorruptedState,
+        (_, Word::InternalFailure) => Answer::InternalFailure,
+        _ => Answer::Other,
     }
 }
 
 /// What a call answers. What it gives is let go, and its ticket stays.
-fn told_of(called: Called) -> Told {
+fn answer_of(called: Called) -> Answer {
     match called {
         Ok(registration) => {
             registration.abandon();
-            Told::Granted
+            Answer::Granted
         }
         Err(refusal) => {
-            let (_, said) = said(refusal);
-            told_by(said)
+            let (_, reason) = pattern_and_reason(refusal);
+            answer_by(reason)
         }
     }
 }
@@ -85,8 +85,8 @@ pub fn create<A: Asks>(
     builder: A,
     specifier: Option<&AttributeSpecifier>,
     storage: &mut Counted,
-) -> Told {
-    told_of(builder.call(Ask::Create(specifier), Ok(Time::default()), storage))
+) -> Answer {
+    answer_of(builder.call(Ask::Create(specifier), Ok(Time::default()), storage))
 }
 
 /// What its open answers.
@@ -94,8 +94,8 @@ pub fn open<A: Asks>(
     builder: A,
     verifier: Option<&AttributeVerifier>,
     storage: &mut Counted,
-) -> Told {
-    told_of(builder.call(Ask::Open(verifier), Ok(Time::default()), storage))
+) -> Answer {
+    answer_of(builder.call(Ask::Open(verifier), Ok(Time::default()), storage))
 }
 
 /// What its open or create answers.
@@ -103,8 +103,8 @@ pub fn open_or_create<A: Asks>(
     builder: A,
     verifier: Option<&AttributeVerifier>,
     storage: &mut Counted,
-) -> Told {
-    told_of(builder.call(Ask::OpenOrCreate(verifier), Ok(Time::default()), storage))
+) -> Answer {
+    answer_of(builder.call(Ask::OpenOrCreate(verifier), Ok(Time::default()), storage))
 }
 
 /// Where a builder begins.

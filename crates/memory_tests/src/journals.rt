@@ -1,6 +1,6 @@
 //! Calls over a journal that finds no memory, where what others appended is unread.
 
-use crate::asks::{Told, told_by};
+use crate::asks::{Answer, answer_by};
 use crate::refusing::{Refused, Refusing, end, refuse};
 use crate::samples::{NAME, OTHERS, Pattern, prepared};
 use crate::sessions::{call, is_opened};
@@ -13,7 +13,7 @@ use iceoryx2_log::memory::MemoryLog;
 use iceoryx2_session::session::Session;
 use iceoryx2_world::listing;
 use std::alloc::Global;
-use test_support::refusals::said;
+use test_support::refusals::pattern_and_reason;
 
 /// A session of a process that shares a log with others.
 type Sharing = Session<Journal<MemoryLog>>;
@@ -63,7 +63,7 @@ fn entries_of_others(alloc: Global, pattern: Pattern) -> Result<Vec<Entry>, Wron
 }
 
 /// What a process lists that has these entries and memory.
-fn listed(alloc: Global, entries: Vec<Entry>) -> Result<Vec<listing::Entry>, Wrong> {
+fn listed(alloc: Global, entries: Vec<Entry>) -> Result<Vec<listing::ListedService>, Wrong> {
     let log = MemoryLog::from_entries(alloc, entries, 0);
     let mut journal = Journal::starting_at(alloc, log, Vec::new(alloc), 0);
     journal.refresh();
@@ -89,19 +89,19 @@ struct Followed {
 
 /// Whether a reply says that there was no memory, or that the log refused. An open may go on by another round, unless
 /// that finds no memory either.
-fn is_told(reply: &Reply, refusing: Refusing) -> bool {
+fn is_reported(reply: &Reply, refusing: Refusing) -> bool {
     match reply {
         Reply::Opened { slot: _, number: _ } => match refusing {
             Refusing::One(_) => true,
             Refusing::From(_) => false,
         },
         Reply::Refused(refusal) => {
-            let (_, said) = said(*refusal);
-            match told_by(said) {
-                Told::OpenOutOfMemory => true,
-                Told::CreateOutOfMemory => true,
-                Told::InternalFailure => true,
-                Told::ServiceInCorruptedState => true,
+            let (_, reason) = pattern_and_reason(*refusal);
+            match answer_by(reason) {
+                Answer::OpenOutOfMemory => true,
+                Answer::CreateOutOfMemory => true,
+                Answer::InternalFailure => true,
+                Answer::ServiceInCorruptedState => true,
                 _ => false,
             }
         }
@@ -158,10 +158,10 @@ fn attempt_in(
             }
         }
         _ => {
-            if is_told(&reply, refusing) {
+            if is_reported(&reply, refusing) {
                 follow_on(alloc, followed, is_opened(&reply), session)
             } else {
-                Err(Wrong::NotTold)
+                Err(Wrong::NotReported)
             }
         }
     }

@@ -12,6 +12,7 @@
 mod asks;
 mod calls;
 mod journals;
+mod many;
 mod peers;
 mod refusing;
 mod samples;
@@ -21,7 +22,7 @@ mod trial;
 mod unneeded;
 mod values;
 
-use crate::calls::Row;
+use crate::calls::Case;
 use crate::samples::{PATTERNS, Pattern, label, label_with_types};
 use crate::trial::Mode::{Alone, AndLater};
 use crate::trial::{Mode, Tally, Wrong};
@@ -33,8 +34,8 @@ use std::process::ExitCode;
 /// What a scenario came to.
 type Outcome = Result<Tally, Wrong>;
 
-/// Writes what a scenario came to, and tells whether it went well.
-fn tell(rt: &HostRuntime, whose: &str, label: &str, outcome: Outcome) -> io::Result<bool> {
+/// Writes what a scenario came to, and returns whether it went well.
+fn print_outcome(rt: &HostRuntime, whose: &str, label: &str, outcome: Outcome) -> io::Result<bool> {
     let Tally {
         refused,
         by_open,
@@ -56,10 +57,10 @@ fn tell(rt: &HostRuntime, whose: &str, label: &str, outcome: Outcome) -> io::Res
 }
 
 /// Writes what scenarios came to.
-fn tell_all(rt: &HostRuntime, whose: &str, outcomes: &[(&str, Outcome)]) -> io::Result<bool> {
+fn print_outcomes(rt: &HostRuntime, whose: &str, outcomes: &[(&str, Outcome)]) -> io::Result<bool> {
     let mut is_well = true;
     for (label, outcome) in outcomes {
-        is_well = tell(rt, whose, label, *outcome)? && is_well;
+        is_well = print_outcome(rt, whose, label, *outcome)? && is_well;
     }
     Ok(is_well)
 }
@@ -69,44 +70,44 @@ fn sum(one: Outcome, other: Outcome) -> Outcome {
     Ok(one?.and(other?))
 }
 
-/// The call of a row by a pattern.
-fn call(alloc: Global, mode: Mode, pattern: Pattern, row: Row) -> Outcome {
+/// The call of a case by a pattern.
+fn call(alloc: Global, mode: Mode, pattern: Pattern, case: Case) -> Outcome {
     match pattern {
-        Pattern::Event => calls::of_events(alloc, mode, row),
-        Pattern::PublishSubscribe => calls::of_messages(alloc, mode, row),
-        Pattern::RequestResponse => calls::of_requests(alloc, mode, row),
+        Pattern::Event => calls::of_events(alloc, mode, case),
+        Pattern::PublishSubscribe => calls::of_messages(alloc, mode, case),
+        Pattern::RequestResponse => calls::of_requests(alloc, mode, case),
     }
 }
 
-/// The call of a row by each combination of a pattern's types.
-fn call_with_types(alloc: Global, mode: Mode, pattern: Pattern, row: Row) -> Outcome {
+/// The call of a case by each combination of a pattern's types.
+fn call_with_types(alloc: Global, mode: Mode, pattern: Pattern, case: Case) -> Outcome {
     match pattern {
         Pattern::Event => Ok(Tally::NONE),
-        Pattern::PublishSubscribe => calls::of_all_messages(alloc, mode, row),
-        Pattern::RequestResponse => calls::of_all_requests(alloc, mode, row),
+        Pattern::PublishSubscribe => calls::of_all_messages(alloc, mode, case),
+        Pattern::RequestResponse => calls::of_all_requests(alloc, mode, case),
     }
 }
 
 /// The calls of a pattern, each beside other services.
-fn tell_calls(rt: &HostRuntime, pattern: Pattern, rows: &[Row]) -> io::Result<bool> {
+fn print_calls(rt: &HostRuntime, pattern: Pattern, cases: &[Case]) -> io::Result<bool> {
     let alloc = rt.alloc();
     let mut is_well = true;
-    for &row in rows {
-        let alone = call(alloc, Alone, pattern, row);
-        let outcome = sum(alone, call(alloc, AndLater, pattern, row));
-        is_well = tell(rt, label(pattern), row.label, outcome)? && is_well;
+    for &case in cases {
+        let alone = call(alloc, Alone, pattern, case);
+        let outcome = sum(alone, call(alloc, AndLater, pattern, case));
+        is_well = print_outcome(rt, label(pattern), case.label, outcome)? && is_well;
     }
     Ok(is_well)
 }
 
 /// The calls of a pattern by each combination of its types.
-fn tell_calls_with_types(rt: &HostRuntime, pattern: Pattern) -> io::Result<bool> {
+fn print_calls_with_types(rt: &HostRuntime, pattern: Pattern) -> io::Result<bool> {
     let alloc = rt.alloc();
     let mut is_well = true;
-    for &row in calls::GRANTED {
-        let alone = call_with_types(alloc, Alone, pattern, row);
-        let outcome = sum(alone, call_with_types(alloc, AndLater, pattern, row));
-        is_well = tell(rt, label_with_types(pattern), row.label, outcome)? && is_well;
+    for &case in calls::GRANTED {
+        let alone = call_with_types(alloc, Alone, pattern, case);
+        let outcome = sum(alone, call_with_types(alloc, AndLater, pattern, case));
+        is_well = print_outcome(rt, label_with_types(pattern), case.label, outcome)? && is_well;
     }
     Ok(is_well)
 }
@@ -212,40 +213,42 @@ fn of_unneeded(alloc: Global) -> [(&'static str, Outcome); 11] {
         ("open of a service that isn't there", unneeded::open(alloc)),
         ("setters and header changes", unneeded::set(alloc)),
         ("verdicts", unneeded::judge(alloc)),
-        ("creators", unneeded::tell_creator(alloc)),
+        ("creators", unneeded::add_creator(alloc)),
         ("Display", unneeded::display(alloc)),
     ]
 }
 
 /// All scenarios but the calls of builders.
-fn tell_others(rt: &HostRuntime) -> io::Result<bool> {
+fn print_others(rt: &HostRuntime) -> io::Result<bool> {
     let alloc = rt.alloc();
     let mut is_well = true;
     for mode in [Alone, AndLater] {
-        is_well = tell_all(rt, mode.name(), &of_sessions(alloc, mode))? && is_well;
-        is_well = tell_all(rt, mode.name(), &of_journals(alloc, mode))? && is_well;
-        is_well = tell_all(rt, mode.name(), &of_values(alloc, mode))? && is_well;
-        is_well = tell_all(rt, mode.name(), &of_forms(alloc, mode))? && is_well;
+        is_well = print_outcomes(rt, mode.name(), &of_sessions(alloc, mode))? && is_well;
+        is_well = print_outcomes(rt, mode.name(), &of_journals(alloc, mode))? && is_well;
+        is_well = print_outcomes(rt, mode.name(), &of_values(alloc, mode))? && is_well;
+        is_well = print_outcomes(rt, mode.name(), &of_forms(alloc, mode))? && is_well;
+        let many = many::each_access(alloc, mode);
+        is_well = print_outcome(rt, mode.name(), "accesses of a table in trees", many)? && is_well;
     }
-    is_well = tell_all(rt, "peers", &of_peers(alloc))? && is_well;
-    is_well = tell_all(rt, "every request", &of_unneeded(alloc))? && is_well;
+    is_well = print_outcomes(rt, "peers", &of_peers(alloc))? && is_well;
+    is_well = print_outcomes(rt, "every request", &of_unneeded(alloc))? && is_well;
     Ok(is_well)
 }
 
 /// All scenarios.
-fn tell_everything(rt: &HostRuntime) -> io::Result<bool> {
+fn print_everything(rt: &HostRuntime) -> io::Result<bool> {
     let mut is_well = true;
     for pattern in PATTERNS {
-        is_well = tell_calls(rt, pattern, calls::GRANTED)? && is_well;
-        is_well = tell_calls(rt, pattern, calls::OTHERWISE)? && is_well;
+        is_well = print_calls(rt, pattern, calls::GRANTED)? && is_well;
+        is_well = print_calls(rt, pattern, calls::OTHERWISE)? && is_well;
     }
-    is_well = tell_calls_with_types(rt, Pattern::PublishSubscribe)? && is_well;
-    is_well = tell_calls_with_types(rt, Pattern::RequestResponse)? && is_well;
-    Ok(tell_others(rt)? && is_well)
+    is_well = print_calls_with_types(rt, Pattern::PublishSubscribe)? && is_well;
+    is_well = print_calls_with_types(rt, Pattern::RequestResponse)? && is_well;
+    Ok(print_others(rt)? && is_well)
 }
 
 fn main(rt: HostRuntime) -> ExitCode {
-    match tell_everything(&rt) {
+    match print_everything(&rt) {
         Ok(true) => ExitCode::from(0),
         Ok(false) => ExitCode::from(1),
         Err(_) => ExitCode::from(3),

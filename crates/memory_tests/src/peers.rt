@@ -1,6 +1,6 @@
 //! Steps of peers that find no memory, and those that ask for none.
 
-use crate::asks::{self, Asks, Counted, Over, Told};
+use crate::asks::{self, Answer, Asks, Counted, Over};
 use crate::refusing::{Refused, Refusing, end, is_obeyed, refuse};
 use crate::samples::{self, NAME, Pattern, prepared};
 use crate::seen::drop_table;
@@ -12,10 +12,10 @@ use iceoryx2_commands::command::{How, Reply};
 use iceoryx2_description::config::Config;
 use iceoryx2_description::description::{MessagingPattern, ServiceHash, StaticConfig};
 use iceoryx2_description::event;
-use iceoryx2_script::script::Faulty;
 use iceoryx2_session::session::Session;
 use iceoryx2_table::table::{Act, Step, Table};
-use iceoryx2_world::listing::{Entry, ListedRow, ListedSegment};
+use iceoryx2_testing::script::Faulty;
+use iceoryx2_world::listing::{ListedRow, ListedSegment, ListedService};
 use std::alloc::Global;
 
 /// What a peer does, with a number of nodes in place of a description.
@@ -130,7 +130,7 @@ fn create_in(
             } else if reply == (Reply::Opened { slot: 0, number: 0 }) {
                 Ok(Tally::ONE)
             } else {
-                Err(Wrong::NotTold)
+                Err(Wrong::NotReported)
             }
         }
         Refused::More => Err(Wrong::AskedAgain),
@@ -152,7 +152,7 @@ pub fn skip(alloc: Global) -> Result<Tally, Wrong> {
 type Contents = Option<(u64, Option<(u64, u64)>)>;
 
 /// What is listed of the only service.
-fn contents(entries: &[Entry]) -> Contents {
+fn contents(entries: &[ListedService]) -> Contents {
     let entry = entries.first()?;
     let number = match entry.row {
         ListedRow::Published(number, _) => number,
@@ -239,12 +239,12 @@ pub fn never_skip(alloc: Global) -> Result<Tally, Wrong> {
 struct Replaced;
 
 /// What an open comes to whose service was replaced or not, since the peer may have found no memory.
-fn judge(refused: Refused, told: Told, storage: &Counted) -> Result<Option<Tally>, Wrong> {
+fn judge(refused: Refused, answer: Answer, storage: &Counted) -> Result<Option<Tally>, Wrong> {
     let counts = (storage.looks(), storage.openings(), storage.accesses());
     let is_skipped = storage.inner().skipped() != 0;
-    match (refused, told) {
+    match (refused, answer) {
         // the tag is taken away before the third look finds the other service
-        (Refused::None, Told::TooFewNodes) => {
+        (Refused::None, Answer::TooFewNodes) => {
             if is_skipped || counts != (3, 1, 9) {
                 Err(Wrong::Answer)
             } else {
@@ -252,10 +252,10 @@ fn judge(refused: Refused, told: Told, storage: &Counted) -> Result<Option<Tally
             }
         }
         (Refused::None, _) => Err(Wrong::Answer),
-        (_, Told::Granted) => Err(Wrong::NotTold),
+        (_, Answer::Granted) => Err(Wrong::NotReported),
         (_, _) => {
-            if !is_skipped && (refused == Refused::More || told != Told::OpenOutOfMemory) {
-                Err(Wrong::NotTold)
+            if !is_skipped && (refused == Refused::More || answer != Answer::OpenOutOfMemory) {
+                Err(Wrong::NotReported)
             } else {
                 Ok(Some(Tally::ONE))
             }
@@ -276,8 +276,8 @@ fn open_replaced(
     let builder: Builder<Over> = Asks::builder(alloc, 1, NAME)?;
     let builder = builder.for_nodes(5);
     refuse(alloc, refusing);
-    let told = asks::open(builder, None, storage);
-    let came = judge(end(alloc), told, storage)?;
+    let answer = asks::open(builder, None, storage);
+    let came = judge(end(alloc), answer, storage)?;
     if storage.inner().has_tag(1, &hash) || storage.inner().tickets(1, &hash) != 0 {
         Err(Wrong::Changed)
     } else {

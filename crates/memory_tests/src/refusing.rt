@@ -12,7 +12,7 @@ const SPAN: usize = 0x1000;
 /// More requests than are ever refused.
 const NEVER: u16 = 0xfff;
 
-/// Asks for so many bytes, gives them back, and tells whether they were there.
+/// Asks for so many bytes, gives them back, and returns whether they were there.
 fn ask(alloc: Global, bytes: usize) -> bool {
     match Vec::<u8>::with_capacity(alloc, bytes) {
         Ok(_) => true,
@@ -71,7 +71,7 @@ fn how_many(alloc: Global) -> Refused {
     }
 }
 
-/// Refuses none from now on, and tells how many were refused since the last order to refuse.
+/// Refuses none from now on, and returns how many were refused since the last order to refuse.
 pub fn end(alloc: Global) -> Refused {
     let refused = how_many(alloc);
     refuse_none(alloc);

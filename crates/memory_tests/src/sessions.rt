@@ -1,6 +1,6 @@
 //! Commands of a session.
 
-use crate::asks::{Told, told_by};
+use crate::asks::{Answer, answer_by};
 use crate::refusing::{Refused, Refusing, end, is_obeyed, refuse};
 use crate::samples::{self, NAME, OTHERS, Pattern, prepared};
 use crate::seen::{Seen, drop_table, is_as_before, look};
@@ -14,7 +14,7 @@ use iceoryx2_session::session::Session;
 use iceoryx2_table::table::Table;
 use std::alloc::Global;
 use test_support::calls::command;
-use test_support::refusals::said;
+use test_support::refusals::pattern_and_reason;
 
 /// A vector of one thing.
 fn only<T: Drop>(alloc: Global, one: T) -> Result<Vec<T>, Wrong> {
@@ -89,17 +89,17 @@ struct Wanted {
 /// Whether an open error says that there was no memory, or a create error does.
 fn is_open_error(wanted: Wanted, reply: &Reply) -> Result<bool, Wrong> {
     let Reply::Refused(refusal) = reply else {
-        return Err(Wrong::NotTold);
+        return Err(Wrong::NotReported);
     };
-    let (pattern, said) = said(*refusal);
-    let (how, _, _) = said;
+    let (pattern, reason) = pattern_and_reason(*refusal);
+    let (how, _, _) = reason;
     if pattern != wanted.pattern || how != wanted.how {
-        return Err(Wrong::NotTold);
+        return Err(Wrong::NotReported);
     }
-    match told_by(said) {
-        Told::OpenOutOfMemory => Ok(true),
-        Told::CreateOutOfMemory => Ok(false),
-        _ => Err(Wrong::NotTold),
+    match answer_by(reason) {
+        Answer::OpenOutOfMemory => Ok(true),
+        Answer::CreateOutOfMemory => Ok(false),
+        _ => Err(Wrong::NotReported),
     }
 }
 
@@ -110,7 +110,7 @@ fn tally(wanted: Wanted, reply: &Reply, before: Seen, after: &Seen) -> Result<Ta
     if numbers > 1 || is_open_error && numbers != 0 || !is_as_before(before, after, numbers) {
         return Err(Wrong::Changed);
     }
-    Ok(Tally::said(is_open_error, numbers))
+    Ok(Tally::reported(is_open_error, numbers))
 }
 
 /// Node 2 creates other services.
@@ -248,7 +248,7 @@ fn list_in(
         (Refused::None, Reply::Listing(_)) => Ok(None),
         (Refused::None, _) => Err(Wrong::Answer),
         (Refused::One, Reply::OutOfMemory) => Ok(Some(Tally::ONE)),
-        (Refused::One, _) => Err(Wrong::NotTold),
+        (Refused::One, _) => Err(Wrong::NotReported),
         (Refused::More, _) => Err(Wrong::AskedAgain),
     }
 }
@@ -311,7 +311,7 @@ fn run_in(alloc: Global, refusing: Refusing, session: &mut Session<Table>) -> Re
         }
         Refused::One => {
             if replies.is_ok() {
-                Err(Wrong::NotTold)
+                Err(Wrong::NotReported)
             } else if is_as_before(before, &after, 0) {
                 Ok(Tally::ONE)
             } else {

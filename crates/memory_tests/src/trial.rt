@@ -9,7 +9,7 @@ pub enum Wrong {
     /// There was no memory while none was refused.
     Preparation,
     /// A request was refused, and the answer doesn't say so.
-    NotTold,
+    NotReported,
     /// A request was refused, and more was asked for then.
     AskedAgain,
     /// A request was refused, and the storage was looked at more often than without a refusal.
@@ -54,7 +54,7 @@ impl Tally {
     };
 
     /// One refused request that an open error says, or a create error, and that spends so many numbers.
-    pub fn said(by_open: bool, numbers: u64) -> Tally {
+    pub fn reported(by_open: bool, numbers: u64) -> Tally {
         Tally {
             refused: 1,
             by_open: u64::from(by_open),
@@ -165,7 +165,7 @@ impl<M: Making> Trial for Made<M> {
                     Err(Wrong::Changed)
                 }
             }
-            (Refused::One, _) => Err(Wrong::NotTold),
+            (Refused::One, _) => Err(Wrong::NotReported),
         }
     }
 }

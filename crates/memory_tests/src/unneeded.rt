@@ -1,6 +1,6 @@
 //! What asks for no memory, with every request refused.
 
-use crate::asks::{self, Asks, Counted, Over, Told};
+use crate::asks::{self, Answer, Asks, Counted, Over};
 use crate::samples::{self, NAME, Pattern, prepared};
 use crate::seen::drop_table;
 use crate::trial::{Tally, Wrong, refuse_all, without_memory};
@@ -11,10 +11,10 @@ use iceoryx2_description::description::{ServiceHash, ServiceName};
 use iceoryx2_description::event::EventId;
 use iceoryx2_description::time::{Duration, Time};
 use iceoryx2_errors::error::{CloseError, EventOpenError, EventOpenOrCreateError};
-use iceoryx2_port_factory::port_factory::event::PortFactory;
-use iceoryx2_script::script::Faulty;
+use iceoryx2_rounds::port_factory::event::PortFactory;
 use iceoryx2_table::local::Local;
 use iceoryx2_table::table::Table;
+use iceoryx2_testing::script::Faulty;
 use iceoryx2_types::types::publish_subscribe::Header;
 use iceoryx2_types::types::{
     Alignment, CustomHeaderMarker, CustomPayloadMarker, Slice, TypeDetail,
@@ -133,11 +133,11 @@ pub fn judge(alloc: Global) -> Result<Tally, Wrong> {
 }
 
 /// Tells a creator in a description.
-pub fn tell_creator(alloc: Global) -> Result<Tally, Wrong> {
+pub fn add_creator(alloc: Global) -> Result<Tally, Wrong> {
     let description = samples::description(alloc, Pattern::Event)?;
     refuse_all(alloc);
-    let told = description.with_creator(7);
-    without_memory(alloc, told.creator() == Some(7))
+    let answer = description.with_creator(7);
+    without_memory(alloc, answer.creator() == Some(7))
 }
 
 /// Writes an error into a text that has room for it.
@@ -154,8 +154,8 @@ pub fn display(alloc: Global) -> Result<Tally, Wrong> {
 fn open_nothing(alloc: Global, storage: &mut Counted) -> Result<Tally, Wrong> {
     let builder: event::Builder<Over> = Asks::builder(alloc, 1, NAME)?;
     refuse_all(alloc);
-    let told = asks::open(builder, None, storage);
-    without_memory(alloc, told == Told::DoesNotExist)
+    let answer = asks::open(builder, None, storage);
+    without_memory(alloc, answer == Answer::DoesNotExist)
 }
 
 /// The same over a new table.
@@ -204,7 +204,7 @@ fn read_factory(
     table: &Table,
 ) -> Result<Tally, Wrong> {
     refuse_all(alloc);
-    let is_told = factory.name().as_str() == NAME
+    let is_reported = factory.name().as_str() == NAME
         && factory.service_hash() == &hash
         && factory.attributes().is_empty()
         && factory.static_config().max_nodes == 36
@@ -214,7 +214,7 @@ fn read_factory(
     factory.abandon();
     let is_held = table.has_tag(1, &hash) && table.tickets(1, &hash) == 1;
     let is_counted = table.counter() == 1 && table.pending() == 0 && table.skipped() == 0;
-    without_memory(alloc, is_told && is_held && is_counted)
+    without_memory(alloc, is_reported && is_held && is_counted)
 }
 
 /// A factory that is closed.

@@ -228,7 +228,7 @@ fn named(answer: Result<ServiceName, ServiceNameError>) -> Came {
 }
 
 /// What a type came to.
-fn told(answer: Result<TypeDetail, TypeDetailError>) -> Came {
+fn detail_made(answer: Result<TypeDetail, TypeDetailError>) -> Came {
     match answer {
         Ok(detail) => done(detail.type_name() == "Image"),
         Err(TypeDetailError::OutOfMemory) => Came::OutOfMemory,
@@ -249,7 +249,13 @@ impl Making for Newly {
         match self {
             Newly::Name => named(ServiceName::new(alloc, samples::NAME)),
             Newly::HashText(hash) => given(hash.to_text(alloc)),
-            Newly::Detail => told(TypeDetail::new(alloc, TypeVariant::FixedSize, "Image", 24, 8)),
+            Newly::Detail => detail_made(TypeDetail::new(
+                alloc,
+                TypeVariant::FixedSize,
+                "Image",
+                24,
+                8,
+            )),
             Newly::Messages => given(MessageTypeDetails::from::<Header, u32, u64>(
                 alloc,
                 TypeVariant::Dynamic,

@@ -1,4 +1,4 @@
-//! A second table for tests: one in its plain form, written from the rules alone, and commands over any storage.
+//! A third table for tests: one in its plain form, written from the rules alone, and commands over any storage.
 #![tactic(auto)]
 
 pub mod body;

@@ -7,7 +7,7 @@ use iceoryx2_builder::builder::Node;
 use iceoryx2_commands::command::{Call, How, Reply, SLOTS, Settings};
 use iceoryx2_description::config::Config;
 use iceoryx2_description::description::StaticConfig;
-use iceoryx2_port_factory::port_factory::{CloseError, Registration};
+use iceoryx2_rounds::port_factory::{CloseError, Registration};
 use std::alloc::{AllocError, Global};
 use test_support::calls::{Ask, Called, Calls, Now, messages, requests};
 
@@ -85,18 +85,23 @@ macro_rules! with_all {
 /// What a call is answered at a storage. Its node has the default configuration.
 fn called<S: Service>(call: Call, storage: &mut S::Storage) -> Called {
     let builder = Node::<S>::new(call.node, Config::default()).service_builder(call.name);
-    let (said, attributes) = ((call.how, call.now), call.attributes);
+    let (asked_how, attributes) = ((call.how, call.now), call.attributes);
     match call.settings {
         Settings::Event(all) => {
-            asked::<S, _>(with_all!(builder.event(), all), said, attributes, storage)
+            asked::<S, _>(
+                with_all!(builder.event(), all),
+                asked_how,
+                attributes,
+                storage,
+            )
         }
         Settings::PublishSubscribe(all) => {
             let builder = with_all!(messages::<S>(builder), all);
-            asked::<S, _>(builder, said, attributes, storage)
+            asked::<S, _>(builder, asked_how, attributes, storage)
         }
         Settings::RequestResponse(all) => {
             let builder = with_all!(requests::<S>(builder), all);
-            asked::<S, _>(builder, said, attributes, storage)
+            asked::<S, _>(builder, asked_how, attributes, storage)
         }
     }
 }

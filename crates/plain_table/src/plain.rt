@@ -8,7 +8,7 @@ use iceoryx2_access::storage::{
 };
 use iceoryx2_description::description::{ServiceHash, StaticConfig};
 use iceoryx2_table::table::{Act, Step};
-use iceoryx2_world::listing::Entry;
+use iceoryx2_world::listing::ListedService;
 use iceoryx2_world::world::{Participant, Phase};
 use std::alloc::{AllocError, Global};
 use std::collections::BTreeMap;
@@ -49,7 +49,7 @@ impl PlainTable {
         }
     }
 
-    /// Takes a step of a participant, and tells whether it was allowed. At a service of which nothing is
+    /// Takes a step of a participant, and returns whether it was allowed. At a service of which nothing is
     /// kept only a lock is.
     fn take(
         &mut self,
@@ -329,7 +329,7 @@ impl Body for Plain {
         table.skipped
     }
 
-    fn list(table: &PlainTable) -> Result<Vec<Entry>, AllocError> {
+    fn list(table: &PlainTable) -> Result<Vec<ListedService>, AllocError> {
         let mut entries = Vec::new(table.alloc);
         for (hash, standing) in table.services.iter() {
             if let Some(entry) = standing.listed(*hash)? {

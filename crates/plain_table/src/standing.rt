@@ -4,7 +4,7 @@ use iceoryx2_access::storage::{Existence, FetchError, OpenSegmentError};
 use iceoryx2_byte_form::bytes::encode;
 use iceoryx2_description::description::{ServiceHash, StaticConfig};
 use iceoryx2_table::table::Act;
-use iceoryx2_world::listing::{Entry, ListedRow, ListedSegment};
+use iceoryx2_world::listing::{ListedRow, ListedSegment, ListedService};
 use iceoryx2_world::world::{Bytes, Participant, Phase, Row};
 use std::alloc::{AllocError, Global};
 use std::collections::{BTreeMap, BTreeSet};
@@ -44,7 +44,7 @@ impl Segment {
         }
     }
 
-    /// Takes a participant out, and tells whether others are there. It is marked where they aren't.
+    /// Takes a participant out, and returns whether others are there. It is marked where they aren't.
     fn take_out(&mut self, participant: Participant) -> bool {
         let others = self.participants.len() > 1;
         let _ = self.participants.remove(&participant);
@@ -238,7 +238,7 @@ impl Standing {
         }
     }
 
-    /// Takes a step of a participant, and tells whether it was allowed. Any that isn't in a row here is
+    /// Takes a step of a participant, and returns whether it was allowed. Any that isn't in a row here is
     /// forbidden.
     pub fn take(
         &mut self,
@@ -296,7 +296,7 @@ impl Standing {
         }
     }
 
-    /// Tags a node, and tells whether it had no tag.
+    /// Tags a node, and returns whether it had no tag.
     pub fn tag(&mut self, node: u64) -> Result<bool, AllocError> {
         match self.tags.insert(node) {
             Ok(is_new) => Ok(is_new),
@@ -393,7 +393,7 @@ impl Standing {
     }
 
     /// What is listed of it, where there is a row or a segment.
-    pub fn listed(&self, hash: ServiceHash) -> Result<Option<Entry>, AllocError> {
+    pub fn listed(&self, hash: ServiceHash) -> Result<Option<ListedService>, AllocError> {
         let segment = match &self.segment {
             Some(segment) => Some(segment.listed()),
             None => None,
@@ -402,6 +402,6 @@ impl Standing {
             return Ok(None);
         }
         let row = self.listed_row()?;
-        Ok(Some(Entry { hash, row, segment }))
+        Ok(Some(ListedService { hash, row, segment }))
     }
 }

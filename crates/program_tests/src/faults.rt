@@ -1,8 +1,8 @@
 //! Readers and writers that fail, and memory that runs out.
 
 use crate::support::{Page, Pieces, assert_same, text_of};
-use negotiate_serve::ending::{Fault, status};
-use negotiate_serve::serve::{serve, tell_fault};
+use negotiate_serve::ending::{ServeError, status};
+use negotiate_serve::serve::{serve, write_failure};
 use std::alloc::Global;
 use std::io::{self, ErrorKind};
 use std::process::Abort;
@@ -98,7 +98,7 @@ fn a_flush_that_fails_ends_the_program(rt: HostRuntime) {
 fn ended(alloc: Global, fault: ErrorKind, room: usize) -> (Vec<u8>, u8) {
     let mut page = Page::new(alloc);
     page.room = room;
-    let fault = tell_fault(Fault::of_reading(&io::Error::from(fault)), &mut page);
+    let fault = write_failure(ServeError::of_reading(&io::Error::from(fault)), &mut page);
     (page.text, status(&Err(fault)))
 }
 

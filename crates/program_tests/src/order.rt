@@ -10,7 +10,7 @@ use std::io::{self, Read, Write};
 /// How many reads are kept.
 const READS: usize = 8;
 
-/// A writer that counts what it takes, and tells how much of it was flushed.
+/// A writer that counts what it takes, and returns how much of it was flushed.
 #[derive(Drop)]
 struct Counted<'a> {
     taken: u64,

@@ -1,18 +1,18 @@
 //! What is written to the standard error where a program ends.
 
 use crate::support::{Page, Pieces, assert_same, text_of};
-use negotiate_serve::ending::{Ending, Fault};
+use negotiate_serve::ending::{Ending, ServeError};
 use negotiate_serve::report::report;
 use negotiate_serve::serve::serve;
 use std::alloc::Global;
 
 /// Faults, and what is written of them.
-const FAULTS: [(Fault, &str); 5] = [
-    (Fault::Reading, "explain: reading failed\n"),
-    (Fault::Writing, "explain: writing failed\n"),
-    (Fault::TooManyLines, "explain: too many lines\n"),
-    (Fault::TooManyTries, "explain: interrupted too often\n"),
-    (Fault::OutOfMemory, "explain: out of memory\n"),
+const FAULTS: [(ServeError, &str); 5] = [
+    (ServeError::Reading, "explain: reading failed\n"),
+    (ServeError::Writing, "explain: writing failed\n"),
+    (ServeError::TooManyLines, "explain: too many lines\n"),
+    (ServeError::TooManyTries, "explain: interrupted too often\n"),
+    (ServeError::OutOfMemory, "explain: out of memory\n"),
 ];
 
 /// Inputs that end at a line, and what is written of it.
@@ -133,17 +133,17 @@ const WRONG: &[(&str, &str)] = &[
 /// What is written where there is so much room, and whether that could be written.
 fn reported(
     alloc: Global,
-    ended: &Result<Ending, Fault>,
+    ended: &Result<Ending, ServeError>,
     room: usize,
-) -> (Vec<u8>, Result<(), Fault>) {
+) -> (Vec<u8>, Result<(), ServeError>) {
     let mut page = Page::new(alloc);
     page.room = room;
-    let told = report("explain", ended, &mut page);
-    (page.text, told)
+    let report_result = report("explain", ended, &mut page);
+    (page.text, report_result)
 }
 
 /// What is written where such an input has ended.
-fn reported_of(alloc: Global, input: &[u8]) -> (Vec<u8>, Result<(), Fault>) {
+fn reported_of(alloc: Global, input: &[u8]) -> (Vec<u8>, Result<(), ServeError>) {
     let mut page = Page::new(alloc);
     let pieces = Pieces {
         bytes: input,
@@ -157,33 +157,41 @@ fn reported_of(alloc: Global, input: &[u8]) -> (Vec<u8>, Result<(), Fault>) {
 #[test]
 fn a_fault_has_a_line(rt: HostRuntime) {
     for (fault, wanted) in FAULTS {
-        let (bytes, told) = reported(rt.alloc(), &Err(fault), 100);
+        let (bytes, report_result) = reported(rt.alloc(), &Err(fault), 100);
         let text = text_of(&rt, bytes.as_slice());
-        assert_same(&rt, (text, told), (wanted, Ok(())));
+        assert_same(&rt, (text, report_result), (wanted, Ok(())));
     }
 }
 
 #[test]
 fn a_line_that_cannot_be_written_is_cut(rt: HostRuntime) {
     for (room, wanted) in [(0, ""), (7, "explain"), (20, "explain: writing fai")] {
-        let (bytes, told) = reported(rt.alloc(), &Err(Fault::Writing), room);
+        let (bytes, report_result) = reported(rt.alloc(), &Err(ServeError::Writing), room);
         let text = text_of(&rt, bytes.as_slice());
-        assert_same(&rt, (text, told), (wanted, Err(Fault::Writing)));
+        assert_same(
+            &rt,
+            (text, report_result),
+            (wanted, Err(ServeError::Writing)),
+        );
     }
 }
 
 #[test]
 fn what_is_wrong_with_a_line_has_a_line(rt: HostRuntime) {
     for &(input, wanted) in WRONG {
-        let (bytes, told) = reported_of(rt.alloc(), input.as_bytes());
+        let (bytes, report_result) = reported_of(rt.alloc(), input.as_bytes());
         let text = text_of(&rt, bytes.as_slice());
-        assert_same(&rt, (input, text, told), (input, wanted, Ok(())));
+        assert_same(&rt, (input, text, report_result), (input, wanted, Ok(())));
     }
 }
 
 #[test]
 fn a_line_that_is_no_text_has_a_line(rt: HostRuntime) {
-    let (bytes, told) = reported_of(rt.alloc(), b"list\n\xff\n");
+    let (bytes, report_result) = reported_of(rt.alloc(), b"list\n\xff\n");
     let text = text_of(&rt, bytes.as_slice());
-    assert_same(&rt, (text, told), ("explain: line 2: not UTF-8\n", Ok(())));
+    assert_same(
+        &rt,
+        (text, report_result),
+        ("explain: line 2: not UTF-8\n", Ok(())),
+    );
 }

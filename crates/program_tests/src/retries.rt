@@ -2,7 +2,7 @@
 
 use crate::support::{Page, assert_same, text_of};
 use explain_serve::format::Format;
-use negotiate_serve::ending::{Ending, Fault, status};
+use negotiate_serve::ending::{Ending, ServeError, status};
 use negotiate_serve::serve::serve;
 use std::alloc::Global;
 use std::io::{self, ErrorKind, Read, Write};
@@ -81,14 +81,14 @@ impl Write for HaltingPage {
 }
 
 /// What `negotiate` prints with this reader and this writer, and how it ends.
-fn answered_haltingly(alloc: Global, input: &str) -> (Vec<u8>, Result<Ending, Fault>) {
+fn answered_haltingly(alloc: Global, input: &str) -> (Vec<u8>, Result<Ending, ServeError>) {
     let mut page = HaltingPage::new(alloc);
     let ended = serve(alloc, HaltingInput::new(input), &mut page);
     (page.text, ended)
 }
 
 /// What `explain` does.
-fn explained_haltingly(alloc: Global, input: &str) -> (Vec<u8>, Result<Ending, Fault>) {
+fn explained_haltingly(alloc: Global, input: &str) -> (Vec<u8>, Result<Ending, ServeError>) {
     let mut page = HaltingPage::new(alloc);
     let input = HaltingInput::new(input);
     let ended = explain_serve::serve::serve(alloc, input, &mut page, Format::Diagram);
@@ -137,7 +137,7 @@ impl Read for EmptyLines<'_> {
 }
 
 /// What `negotiate` prints for 1,100,000 empty lines and one that is no command, and how it ends.
-fn answered_at_length(alloc: Global) -> (Vec<u8>, Result<Ending, Fault>) {
+fn answered_at_length(alloc: Global) -> (Vec<u8>, Result<Ending, ServeError>) {
     let mut page = Page::new(alloc);
     let input = EmptyLines {
         lines: 1_100_000,

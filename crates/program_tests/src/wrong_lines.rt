@@ -5,7 +5,7 @@ use iceoryx2_description::config::Config;
 use iceoryx2_session::session::Session;
 use iceoryx2_table::table::Table;
 use negotiate_serve::answer::answer_next;
-use negotiate_serve::ending::{Ending, Fault, WrongLines, status};
+use negotiate_serve::ending::{Ending, ServeError, WrongLines, status};
 use std::alloc::Global;
 use std::io::BufReader;
 
@@ -45,7 +45,7 @@ fn answer_all(
     page: &mut Page,
     session: &mut Session<Table>,
     wrong_lines: WrongLines,
-) -> Result<Option<Ending>, Fault> {
+) -> Result<Option<Ending>, ServeError> {
     let mut line = Vec::new(alloc);
     let mut text = String::new(alloc);
     for number in 1..100u64 {
@@ -84,7 +84,7 @@ fn printed(alloc: Global, input: &[u8], wrong_lines: WrongLines) -> (Vec<u8>, u8
     }
 }
 
-fn status_of(ended: Result<Option<Ending>, Fault>) -> u8 {
+fn status_of(ended: Result<Option<Ending>, ServeError>) -> u8 {
     match ended {
         Ok(Some(ending)) => status(&Ok(ending)),
         Ok(None) => 255,

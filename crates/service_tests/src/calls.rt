@@ -2,11 +2,11 @@
 //! call of the layer stands here alone, so that a test sees answers and no contracts.
 
 pub use crate::support::{
-    Contents, EMPTY, Holding, Keys, NEW, NOTHING, OF_BOTH, OF_ONE, Pairs, REGISTRATION, Row,
+    Contents, EMPTY, Holding, Keys, NEW, NOTHING, OF_BOTH, OF_ONE, Pairs, REGISTRATION, RowSummary,
     Segment, UNHELD, assert_same, bytes_of, contents, drop_table, entries, granted, hash_of_events,
     held, name, push, specifier, there, verifier,
 };
-use crate::types::{Told, detail};
+use crate::types::{TypeFacts, detail};
 use iceoryx2_access::storage::Service;
 use iceoryx2_builder::builder::event::EventId;
 use iceoryx2_builder::builder::{Builder, Node, event};
@@ -21,7 +21,7 @@ pub use iceoryx2_errors::error::{
     PublishSubscribeCreateError, PublishSubscribeOpenError, PublishSubscribeOpenOrCreateError,
     RequestResponseCreateError, RequestResponseOpenError, RequestResponseOpenOrCreateError,
 };
-use iceoryx2_port_factory::port_factory::Registration;
+use iceoryx2_rounds::port_factory::Registration;
 use iceoryx2_types::types::Alignment;
 use std::alloc::Global;
 use std::process::Abort;
@@ -76,8 +76,8 @@ pub enum Ask {
     History(u64),
     Overflow(bool),
     Alignment(u64),
-    Payload(Told<'static>),
-    UserHeader(Told<'static>),
+    Payload(TypeFacts<'static>),
+    UserHeader(TypeFacts<'static>),
     Buffer(u64),
     Borrowed(u64),
     OverflowOfRequests(bool),
@@ -89,10 +89,10 @@ pub enum Ask {
     Clients(u64),
     RequestAlignment(u64),
     ResponseAlignment(u64),
-    Request(Told<'static>),
-    RequestHeader(Told<'static>),
-    Response(Told<'static>),
-    ResponseHeader(Told<'static>),
+    Request(TypeFacts<'static>),
+    RequestHeader(TypeFacts<'static>),
+    Response(TypeFacts<'static>),
+    ResponseHeader(TypeFacts<'static>),
 }
 
 /// What is asked of a builder, one after the other.
@@ -327,7 +327,7 @@ macro_rules! setter {
         match $ask {
             $(Ask::$plain(value) => $setter::$sets(value),)*
             $(Ask::$aligned(value) => $setter::$aligns(there($rt, Alignment::new(value))),)*
-            $(Ask::$typed(told) => $setter::$types(detail($rt, $alloc, told)),)*
+            $(Ask::$typed(facts_of) => $setter::$types(detail($rt, $alloc, facts_of)),)*
             _ => panic!($rt; "the pattern has no such setting"),
         }
     };

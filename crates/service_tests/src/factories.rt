@@ -8,12 +8,12 @@ use iceoryx2_builder::builder::event::EventId;
 use iceoryx2_description::config::Config;
 use iceoryx2_description::description::ServiceHash;
 use iceoryx2_description::time::{Duration, Time};
-use iceoryx2_port_factory::port_factory::event;
-use iceoryx2_port_factory::port_factory::factory::{Kind, PortFactory};
+use iceoryx2_rounds::port_factory::event;
+use iceoryx2_rounds::port_factory::factory::{Kind, PortFactory};
 use iceoryx2_table::local::Local;
 use iceoryx2_table::table::Table;
 use iceoryx2_types::types::TypeVariant::{Dynamic, FixedSize};
-use iceoryx2_world::listing::{Entry, ListedRow};
+use iceoryx2_world::listing::{ListedRow, ListedService};
 use std::alloc::Global;
 use std::process::Abort;
 use test_support::calls::{Calls, messages, plainly, requests};
@@ -68,12 +68,12 @@ fn of_its_creator(rt: &impl Abort, alloc: Global) -> ([Identity; 2], [Contents; 
 #[test]
 fn a_second_factory_of_a_node_takes_no_further_node_slot(rt: HostRuntime) {
     let before = (
-        Row::Published(0),
+        RowSummary::Published(0),
         Some((0, 36, 1, false)),
         ((true, 2), NOTHING),
         2,
     );
-    let after = (Row::Absent, None, UNHELD, 2);
+    let after = (RowSummary::Absent, None, UNHELD, 2);
     let wanted = ([(0, 1, Some(1), true, true); 2], [before, after]);
     assert_same(&rt, of_its_creator(&rt, rt.alloc()), wanted);
 }
@@ -119,7 +119,7 @@ fn factories_of_messages_tell_who_created_their_service_and_leave_a_ticket(rt: H
 fn has_published(rt: &impl Abort, table: &Table, wanted: &[u8]) -> bool {
     match entries(rt, table).as_slice() {
         [
-            Entry {
+            ListedService {
                 row: ListedRow::Published(_, bytes),
                 ..
             },

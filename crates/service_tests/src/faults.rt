@@ -2,9 +2,9 @@
 
 use crate::calls::*;
 use crate::types::{I64, SLICE};
-use iceoryx2_script::script::{Faulty, FaultyService};
 use iceoryx2_table::local::Local;
 use iceoryx2_table::table::Table;
+use iceoryx2_testing::script::{Faulty, FaultyService};
 use std::alloc::Global;
 use std::process::Abort;
 
@@ -80,7 +80,7 @@ const CREATE_FAILS: (Step, Answer) = event!(Create 1 => InternalFailure);
 
 /// The second service of a table, of node 1 alone.
 const LATER: Contents = (
-    Row::Published(1),
+    RowSummary::Published(1),
     Some((1, 36, 1, false)),
     (REGISTRATION, NOTHING),
     2,
@@ -112,7 +112,7 @@ const CREATES: &[Run] = &[
         &[6, 7],
         &[CREATE_CORRUPTED],
         (9, 1, 0, 1),
-        left!(Row::Absent, Some((0, 36, 1, false))),
+        left!(RowSummary::Absent, Some((0, 36, 1, false))),
     ),
     (
         &[6, 7],
@@ -129,7 +129,7 @@ const CREATES: &[Run] = &[
             event!(Create 2 => HangsInCreation),
         ],
         (13, 3, 0, 1),
-        left!(Row::Locked(0), None),
+        left!(RowSummary::Locked(0), None),
     ),
 ];
 
@@ -170,7 +170,7 @@ const CREATES_IN_ROUNDS: &[Run] = &[
             event!(OpenOrCreate 2 => EventOpenError HangsInCreation),
         ],
         (14, 4, 0, 1),
-        left!(Row::Locked(0), None),
+        left!(RowSummary::Locked(0), None),
     ),
 ];
 
@@ -190,7 +190,7 @@ const CLOSES: &[Run] = &[
         &[8],
         &[CREATED, TAG_LEFT],
         (10, 1, 0, 1),
-        (Row::Absent, None, (TAG, NOTHING), 1),
+        (RowSummary::Absent, None, (TAG, NOTHING), 1),
     ),
     (
         &[8],
@@ -203,14 +203,14 @@ const CLOSES: &[Run] = &[
         &[9],
         &[CREATED, SEGMENT_LEFT],
         (10, 1, 0, 1),
-        left!(Row::Absent, Some((0, 36, 0, true))),
+        left!(RowSummary::Absent, Some((0, 36, 0, true))),
     ),
     (
         &[9],
         &[CREATED, SEGMENT_LEFT, event!(Create 2 => 1)],
         (18, 2, 0, 3),
         (
-            Row::Published(1),
+            RowSummary::Published(1),
             Some((1, 36, 1, false)),
             (NOTHING, REGISTRATION),
             2,
@@ -226,7 +226,7 @@ const CLOSES: &[Run] = &[
             event!(Create 2 => AlreadyExists),
         ],
         (17, 3, 1, 1),
-        left!(Row::Published(0), None),
+        left!(RowSummary::Published(0), None),
     ),
     // the first of two that are left is named
     (
@@ -237,13 +237,13 @@ const CLOSES: &[Run] = &[
             event!(Open 2 => IsMarkedForDestruction),
         ],
         (15, 2, 1, 1),
-        left!(Row::Published(0), Some((0, 36, 0, true))),
+        left!(RowSummary::Published(0), Some((0, 36, 0, true))),
     ),
     (
         &[8, 10],
         &[CREATED, TAG_LEFT],
         (10, 1, 0, 1),
-        (Row::Published(0), None, (TAG, NOTHING), 1),
+        (RowSummary::Published(0), None, (TAG, NOTHING), 1),
     ),
 ];
 
@@ -336,7 +336,7 @@ const NO_NUMBER: &[Run] = &[(
     &[],
     &[CREATE_FAILS],
     (5, 1, 0, 0),
-    (Row::Absent, None, UNHELD, u64::MAX),
+    (RowSummary::Absent, None, UNHELD, u64::MAX),
 )];
 
 /// A create with the last number, and an open where there is no ticket left.
@@ -345,7 +345,7 @@ const LAST_NUMBER: &[Run] = &[(
     &[(step!(Event Create 1 []), gives!(u64::MAX - 1)), OPEN_FAILS],
     (11, 2, 1, 1),
     (
-        Row::Published(u64::MAX - 1),
+        RowSummary::Published(u64::MAX - 1),
         Some((u64::MAX - 1, 36, 1, false)),
         (REGISTRATION, NOTHING),
         u64::MAX,
@@ -366,7 +366,7 @@ const PUBLISHED: (Step, Answer) = (
 
 /// What the table has of it.
 const OF_PUBLISHER: Contents = (
-    Row::Published(0),
+    RowSummary::Published(0),
     Some((0, 20, 1, false)),
     (REGISTRATION, NOTHING),
     1,

@@ -92,7 +92,7 @@ fn carry_out(rt: &impl Abort, map: &mut Map, act: Act) -> Answer {
 }
 
 /// Acts with what comes of each, and the entries of a map after them.
-type Row = (&'static [(Act, Answer)], &'static [(u64, u64)]);
+type Case = (&'static [(Act, Answer)], &'static [(u64, u64)]);
 
 /// Carries out a row's acts.
 fn carry_out_all(rt: &impl Abort, map: &mut Map, row: usize, acts: &[(Act, Answer)]) {
@@ -108,13 +108,13 @@ fn has(map: &Map, entries: &[(u64, u64)]) -> bool {
 }
 
 /// Carries out a row's acts, and compares the map's entries then.
-fn assert_row(rt: &impl Abort, map: &mut Map, row: usize, each: &Row) {
+fn assert_row(rt: &impl Abort, map: &mut Map, row: usize, each: &Case) {
     carry_out_all(rt, map, row, each.0);
     assert_same(rt, (row, has(map, each.1)), (row, true));
 }
 
 /// Maps that are new.
-const ROWS: &[Row] = &[
+const CASES: &[Case] = &[
     // keys are held in order
     (
         &[
@@ -168,14 +168,14 @@ const ROWS: &[Row] = &[
 
 #[test]
 fn a_map_holds_its_keys_in_order_and_changes_in_place(rt: HostRuntime) {
-    for (row, each) in ROWS.iter().enumerate() {
+    for (row, each) in CASES.iter().enumerate() {
         let mut map = SortedVec::new(rt.alloc());
         assert_row(&rt, &mut map, row, each);
     }
 }
 
 /// A value that is set at its place.
-const ONE: Row = (&[(SetAt(4, 41), Done)], &[(4, 41)]);
+const ONE: Case = (&[(SetAt(4, 41), Done)], &[(4, 41)]);
 
 #[test]
 fn one_entry_is_a_map(rt: HostRuntime) {

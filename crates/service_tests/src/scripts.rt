@@ -7,11 +7,11 @@ use iceoryx2_access::storage::{
     Existence, FetchError, LockError, MakeSegmentError, OpenSegmentError, PublishError, Tag,
     TagError,
 };
-use iceoryx2_script::script::{Answer as AccessAnswer, Script, Scripted};
+use iceoryx2_testing::script::{Answer as AccessAnswer, Script, Scripted};
 use std::alloc::Global;
 use std::process::Abort;
 use test_support::patterns::ALL;
-use test_support::refusals::{By, Said, Word, said};
+use test_support::refusals::{By, Reason, Word, pattern_and_reason};
 
 /// The services of the patterns with the default settings and markers in place of types, as other programs
 /// write them, in hexadecimal digits.
@@ -182,6 +182,15 @@ macro_rules! letters {
     };
 }
 
+/// The same letters six times.
+macro_rules! six_times {
+    ($($letter:expr),*) => {
+        letters![
+            $($letter,)* $($letter,)* $($letter,)* $($letter,)* $($letter,)* $($letter),*
+        ]
+    };
+}
+
 /// Parts in their order.
 pub type Parts = &'static [Part];
 
@@ -227,7 +236,7 @@ fn asked(
 }
 
 /// The number of the service that is given, or the refusal in the words of all patterns.
-type InShort = Result<u64, (Pattern, Said)>;
+type InShort = Result<u64, (Pattern, Reason)>;
 
 /// That of an answer.
 fn in_short(rt: &impl Abort, answer: Answer) -> InShort {
@@ -237,7 +246,7 @@ fn in_short(rt: &impl Abort, answer: Answer) -> InShort {
             | Given::PublishSubscribe(number, ..)
             | Given::RequestResponse(number, ..),
         ) => Ok(number),
-        Answer::Refused(refusal) => Err(said(refusal)),
+        Answer::Refused(refusal) => Err(pattern_and_reason(refusal)),
         _ => panic!(rt; "a call is not closed"),
     }
 }
@@ -247,14 +256,14 @@ type Wanted = Result<u64, (By, Word)>;
 
 /// A script, what a call by the default settings answers over it, whatever the pattern, its counters, and what
 /// it leaves.
-type Row = (Parts, Wanted, Counters, Part);
+type Case = (Parts, Wanted, Counters, Part);
 
 /// Makes the call of a row by node 1, for the service of each pattern.
 fn assert_by_all(
     rt: &impl Abort,
     alloc: Global,
     how: How,
-    (row, &(parts, wanted, counters, left)): (usize, &Row),
+    (row, &(parts, wanted, counters, left)): (usize, &Case),
 ) {
     for pattern in ALL {
         let call = Call {
@@ -280,7 +289,7 @@ fn assert_by_all(
 }
 
 /// Makes the calls of rows.
-fn assert_rows(rt: &impl Abort, alloc: Global, how: How, rows: &[Row]) {
+fn assert_rows(rt: &impl Abort, alloc: Global, how: How, rows: &[Case]) {
     for row in rows.iter().enumerate() {
         assert_by_all(rt, alloc, how, row);
     }
@@ -375,7 +384,7 @@ const NOT_PUBLISHED: Part = letters![
 ];
 
 /// Creates.
-const CREATES: &[Row] = rows! {
+const CREATES: &[Case] = rows! {
     // no answer at all
     [] => Create ServiceInCorruptedState, (1, 0, 0), [];
     // bytes that are damaged, and a service of another pattern
@@ -430,7 +439,7 @@ const UNOPENED: Part = &[Tagged, OpeningNoMemory, TagRemoved];
 const GIVEN_BACK: Part = &[TagRemoved];
 
 /// Opens.
-const OPENS: &[Row] = rows! {
+const OPENS: &[Case] = rows! {
     // no answer at all
     [] => Open ServiceInCorruptedState, (1, 0, 0), [];
     // bytes that are damaged, at the first look and at the second; the description of another pattern
@@ -473,42 +482,7 @@ const TOO_LATE: Part = letters![
 ];
 
 /// An opening that fails six times, each time after a look and before another.
-const NEVER_OPENED: Part = letters![
-    There,
-    Fetched(3),
-    Tagged,
-    OpeningFailed,
-    There,
-    Fetched(3),
-    TagRemoved,
-    There,
-    Fetched(3),
-    Tagged,
-    OpeningFailed,
-    There,
-    Fetched(3),
-    TagRemoved,
-    There,
-    Fetched(3),
-    Tagged,
-    OpeningFailed,
-    There,
-    Fetched(3),
-    TagRemoved,
-    There,
-    Fetched(3),
-    Tagged,
-    OpeningFailed,
-    There,
-    Fetched(3),
-    TagRemoved,
-    There,
-    Fetched(3),
-    Tagged,
-    OpeningFailed,
-    There,
-    Fetched(3),
-    TagRemoved,
+const NEVER_OPENED: Part = six_times![
     There,
     Fetched(3),
     Tagged,
@@ -519,7 +493,7 @@ const NEVER_OPENED: Part = letters![
 ];
 
 /// Opens or creates. A round that is retried is followed by one that finds a service of another pattern.
-const ROUNDS: &[Row] = rows! {
+const ROUNDS: &[Case] = rows! {
     // the look of a round is not tried again
     [] => Open ServiceInCorruptedState, (1, 0, 0), [];
     [BROKEN] => Open ServiceInCorruptedState, (1, 0, 0), [];
@@ -567,7 +541,7 @@ const ROUNDS: &[Row] = rows! {
 
 /// What is gone when it is opened, and then a create that succeeds: the look of the first round and that of its open,
 /// and the look of the second round and that of its create.
-const GONE_AND_CREATED: &[Row] = &[(
+const GONE_AND_CREATED: &[Case] = &[(
     &[letters![
         There,
         Fetched(0),

@@ -2,7 +2,7 @@
 
 use crate::calls::Ask::*;
 use crate::calls::*;
-use crate::types::{I64, Messages, SLICE, Told, U32, are_of};
+use crate::types::{I64, Messages, SLICE, TypeFacts, U32, are_of};
 use iceoryx2_table::local::Local;
 use iceoryx2_table::table::Table;
 use iceoryx2_types::types::TypeVariant::{Dynamic, FixedSize};
@@ -51,7 +51,7 @@ macro_rules! responds {
 }
 
 /// A type of another program.
-const IMAGE: Told<'static> = (FixedSize, "Img", 24, 8);
+const IMAGE: TypeFacts<'static> = (FixedSize, "Img", 24, 8);
 
 /// Creates.
 const CREATES: &[Calls] = rows! {
@@ -311,7 +311,7 @@ fn assert_scenarios(rt: &impl Abort, alloc: Global, scenarios: &[Scenario]) {
 
 /// A service of node 1 alone, with room for it alone.
 const FULL: Contents = (
-    Row::Published(0),
+    RowSummary::Published(0),
     Some((0, 1, 1, false)),
     (REGISTRATION, NOTHING),
     1,
@@ -320,7 +320,7 @@ const FULL: Contents = (
 /// A service of node 1 alone, for 36 nodes, in a table with this counter.
 macro_rules! of_one {
     ($counter:literal) => {
-        (Row::Published(0), Some((0, 36, 1, false)), (REGISTRATION, NOTHING), $counter)
+        (RowSummary::Published(0), Some((0, 36, 1, false)), (REGISTRATION, NOTHING), $counter)
     };
 }
 
@@ -435,7 +435,7 @@ const BY_BOTH: &[Scenario] = &[
             [Event OpenOrCreate 1 [], with [], []] => refused!(Event OpenOrCreate EventCreateError InternalFailure);
             [Event OpenOrCreate 2 [], with [], []] => refused!(Event OpenOrCreate EventCreateError InternalFailure);
         },
-        (Row::Absent, None, UNHELD, u64::MAX),
+        (RowSummary::Absent, None, UNHELD, u64::MAX),
     ),
 ];
 
@@ -518,7 +518,7 @@ macro_rules! made_of {
 }
 
 /// The marker in place of a user header.
-const MARKER: Told<'static> = (FixedSize, "CustomHeaderMarker", 0, 1);
+const MARKER: TypeFacts<'static> = (FixedSize, "CustomHeaderMarker", 0, 1);
 
 /// Messages. An overridden payload keeps its variant, its name and its size: with an alignment, in either order,
 /// and beside another user header.

@@ -12,8 +12,8 @@ use iceoryx2_session::session::{Session, TableSession};
 use iceoryx2_session::table_storage::TableStorage;
 use iceoryx2_session::world_storage::WorldStorage;
 use iceoryx2_table::table::Table;
-use iceoryx2_traced::traced::Traced;
-use iceoryx2_world::listing::Entry;
+use iceoryx2_testing::traced::Traced;
+use iceoryx2_world::listing::ListedService;
 use std::alloc::Global;
 use std::process::Abort;
 use test_support::calls::command;
@@ -22,7 +22,7 @@ use test_support::listing;
 /// A call for the service of events of this name, by this node and into this slot, with these settings, these
 /// pairs and this key if one is named, at time zero or without a clock; or another command.
 #[derive(Clone, Copy)]
-enum Said {
+enum Step {
     Call(How, u64, usize, &'static str, Asks, Pairs, Keys),
     /// A create by node 1 into slot 1, by the default settings, where there is no clock.
     Untimed(&'static str),
@@ -32,7 +32,7 @@ enum Said {
 
 /// What a reply is, without hashes and bytes.
 #[derive(Clone, Copy, Debug, PartialEq, Eq)]
-enum Told {
+enum ShortReply {
     Opened(usize, u64),
     Refused(Refusal),
     Closed(usize),
@@ -46,24 +46,24 @@ enum Told {
 }
 
 /// For how many nodes the only service is.
-fn nodes_of(entries: &[Entry]) -> Option<u64> {
+fn nodes_of(entries: &[ListedService]) -> Option<u64> {
     match listing::only_one(entries) {
         Some((_, Some((_, max_nodes, _, _)))) => Some(max_nodes),
         _ => None,
     }
 }
 
-fn in_short(reply: &Reply) -> Told {
+fn in_short(reply: &Reply) -> ShortReply {
     match reply {
-        Reply::Opened { slot, number } => Told::Opened(*slot, *number),
-        Reply::Refused(refusal) => Told::Refused(*refusal),
-        Reply::Closed { slot } => Told::Closed(*slot),
-        Reply::NotClosed { slot } => Told::NotClosed(*slot),
-        Reply::Listing(entries) => Told::Listed(entries.len(), nodes_of(entries.as_slice())),
-        Reply::NoSuchSlot => Told::NoSlot,
-        Reply::SlotEmpty => Told::Empty,
-        Reply::SlotInUse => Told::InUse,
-        Reply::OutOfMemory => Told::NoMemory,
+        Reply::Opened { slot, number } => ShortReply::Opened(*slot, *number),
+        Reply::Refused(refusal) => ShortReply::Refused(*refusal),
+        Reply::Closed { slot } => ShortReply::Closed(*slot),
+        Reply::NotClosed { slot } => ShortReply::NotClosed(*slot),
+        Reply::Listing(entries) => ShortReply::Listed(entries.len(), nodes_of(entries.as_slice())),
+        Reply::NoSuchSlot => ShortReply::NoSlot,
+        Reply::SlotEmpty => ShortReply::Empty,
+        Reply::SlotInUse => ShortReply::InUse,
+        Reply::OutOfMemory => ShortReply::NoMemory,
     }
 }
 
@@ -84,25 +84,25 @@ fn settings_of(rt: &impl Abort, alloc: Global, asks: Asks) -> Vec<EventSetter> {
 }
 
 /// The command of a row.
-fn command_of(rt: &impl Abort, alloc: Global, said: Said) -> Command {
+fn command_of(rt: &impl Abort, alloc: Global, steps: Step) -> Command {
     let none: Asks = &[];
-    let (place, text, settings, attributes, now) = match said {
-        Said::Call(how, node, slot, text, settings, pairs, keys) => (
+    let (place, text, settings, attributes, now) = match steps {
+        Step::Call(how, node, slot, text, settings, pairs, keys) => (
             (how, node, slot),
             text,
             settings,
             verifier(alloc, pairs, keys),
             Ok(Time::default()),
         ),
-        Said::Untimed(text) => (
+        Step::Untimed(text) => (
             (How::Create, 1, 1),
             text,
             none,
             verifier(alloc, &[], &[]),
             Err(ClockFault),
         ),
-        Said::Close(slot) => return Command::Close { slot },
-        Said::List => return Command::List,
+        Step::Close(slot) => return Command::Close { slot },
+        Step::List => return Command::List,
     };
     let settings = Settings::Event(settings_of(rt, alloc, settings));
     command(place, name(rt, alloc, text), settings, attributes, now)
@@ -113,7 +113,7 @@ type End = (usize, Holdings, u64);
 
 /// Whether events have a deadline by default, the commands of a session over a new table, its replies, and the
 /// end.
-type Row = (bool, &'static [Said], &'static [Told], End);
+type Case = (bool, &'static [Step], &'static [ShortReply], End);
 
 /// A call without settings and attributes.
 macro_rules! call {
@@ -121,54 +121,54 @@ macro_rules! call {
         call!($how $node $slot $text, [])
     };
     ($how:ident $node:literal $slot:literal $text:literal, $settings:expr) => {
-        Said::Call(How::$how, $node, $slot, $text, &$settings, &[], &[])
+        Step::Call(How::$how, $node, $slot, $text, &$settings, &[], &[])
     };
 }
 
 /// A call for `a` with these pairs and this key.
 macro_rules! requiring {
     ($how:ident $node:literal $slot:literal, $key:literal $value:literal $other:literal) => {
-        Said::Call(How::$how, $node, $slot, "a", &[], &[($key, $value)], &[$other])
+        Step::Call(How::$how, $node, $slot, "a", &[], &[($key, $value)], &[$other])
     };
 }
 
 /// The refusals of a create and of an open.
 macro_rules! not_created {
     ($value:ident) => {
-        Told::Refused(Refusal::EventCreate(EventCreateError::$value))
+        ShortReply::Refused(Refusal::EventCreate(EventCreateError::$value))
     };
 }
 
 macro_rules! not_opened {
     ($value:ident) => {
-        Told::Refused(Refusal::EventOpen(EventOpenError::$value))
+        ShortReply::Refused(Refusal::EventOpen(EventOpenError::$value))
     };
 }
 
 /// What an open or create answers that lacks an attribute.
-const LACKING: Told = Told::Refused(Refusal::EventOpenOrCreate(
+const LACKING: ShortReply = ShortReply::Refused(Refusal::EventOpenOrCreate(
     EventOpenOrCreateError::EventOpenError(EventOpenError::IncompatibleAttributes),
 ));
 
 /// Sessions.
-const ROWS: &[Row] = &[
+const CASES: &[Case] = &[
     (false, &[], &[], (0, UNHELD, 0)),
     // slots are tested before anything is called
     (
         false,
         &[
-            Said::Close(64),
-            Said::Close(63),
+            Step::Close(64),
+            Step::Close(63),
             call!(Create 1 64 "a"),
             call!(Create 1 63 "a"),
             call!(Create 1 63 "b"),
         ],
         &[
-            Told::NoSlot,
-            Told::Empty,
-            Told::NoSlot,
-            Told::Opened(63, 0),
-            Told::InUse,
+            ShortReply::NoSlot,
+            ShortReply::Empty,
+            ShortReply::NoSlot,
+            ShortReply::Opened(63, 0),
+            ShortReply::InUse,
         ],
         (0, UNHELD, 1),
     ),
@@ -179,15 +179,15 @@ const ROWS: &[Row] = &[
             call!(Create 1 0 "a"),
             call!(Open 2 1 "a"),
             call!(Open 2 2 "a"),
-            Said::Close(1),
-            Said::Close(1),
+            Step::Close(1),
+            Step::Close(1),
         ],
         &[
-            Told::Opened(0, 0),
-            Told::Opened(1, 0),
-            Told::Opened(2, 0),
-            Told::Closed(1),
-            Told::Empty,
+            ShortReply::Opened(0, 0),
+            ShortReply::Opened(1, 0),
+            ShortReply::Opened(2, 0),
+            ShortReply::Closed(1),
+            ShortReply::Empty,
         ],
         (0, UNHELD, 3),
     ),
@@ -198,13 +198,13 @@ const ROWS: &[Row] = &[
             call!(Create 1 0 "a", [
                 Ask::Nodes(9), Ask::Notifiers(3), Ask::Listeners(4), Ask::EventIds(5), Ask::Nodes(2),
             ]),
-            Said::List,
+            Step::List,
             call!(Create 1 1 "a"),
             call!(Open 1 1 "b"),
         ],
         &[
-            Told::Opened(0, 0),
-            Told::Listed(1, Some(2)),
+            ShortReply::Opened(0, 0),
+            ShortReply::Listed(1, Some(2)),
             not_created!(AlreadyExists),
             not_opened!(DoesNotExist),
         ],
@@ -215,7 +215,7 @@ const ROWS: &[Row] = &[
         true,
         &[
             call!(Open 1 0 "a"),
-            Said::Untimed("a"),
+            Step::Untimed("a"),
             call!(Create 2 0 "a", [Ask::Nodes(1)]),
             call!(Create 1 1 "a"),
             call!(Open 2 1 "a", [Ask::Nodes(2)]),
@@ -224,7 +224,7 @@ const ROWS: &[Row] = &[
         &[
             not_opened!(DoesNotExist),
             not_created!(InternalFailure),
-            Told::Opened(0, 0),
+            ShortReply::Opened(0, 0),
             not_created!(AlreadyExists),
             not_opened!(DoesNotSupportRequestedAmountOfNodes),
             not_opened!(ExceedsMaxNumberOfNodes),
@@ -235,20 +235,20 @@ const ROWS: &[Row] = &[
     (
         false,
         &[
-            Said::List,
-            Said::Call(How::Create, 1, 9, "a", &[], &[], &["k"]),
-            Said::List,
-            Said::Close(9),
-            Said::List,
-            Said::Close(9),
+            Step::List,
+            Step::Call(How::Create, 1, 9, "a", &[], &[], &["k"]),
+            Step::List,
+            Step::Close(9),
+            Step::List,
+            Step::Close(9),
         ],
         &[
-            Told::Listed(0, None),
-            Told::Opened(9, 0),
-            Told::Listed(1, Some(36)),
-            Told::Closed(9),
-            Told::Listed(0, None),
-            Told::Empty,
+            ShortReply::Listed(0, None),
+            ShortReply::Opened(9, 0),
+            ShortReply::Listed(1, Some(36)),
+            ShortReply::Closed(9),
+            ShortReply::Listed(0, None),
+            ShortReply::Empty,
         ],
         (0, UNHELD, 1),
     ),
@@ -262,20 +262,20 @@ const ROWS: &[Row] = &[
             requiring!(Open 2 1, "k" "w" "k"),
             requiring!(Open 2 1, "k" "v" "i"),
             requiring!(Open 2 1, "k" "v" "k"),
-            Said::List,
-            Said::Close(64),
-            Said::Close(1),
+            Step::List,
+            Step::Close(64),
+            Step::Close(1),
         ],
         &[
-            Told::Opened(0, 0),
+            ShortReply::Opened(0, 0),
             not_created!(AlreadyExists),
-            Told::NoSlot,
+            ShortReply::NoSlot,
             not_opened!(IncompatibleAttributes),
             not_opened!(IncompatibleAttributes),
-            Told::Opened(1, 0),
-            Told::Listed(1, Some(36)),
-            Told::NoSlot,
-            Told::Closed(1),
+            ShortReply::Opened(1, 0),
+            ShortReply::Listed(1, Some(36)),
+            ShortReply::NoSlot,
+            ShortReply::Closed(1),
         ],
         (0, UNHELD, 2),
     ),
@@ -289,20 +289,20 @@ const ROWS: &[Row] = &[
             requiring!(OpenOrCreate 2 1, "k" "w" "k"),
             requiring!(OpenOrCreate 2 1, "k" "v" "i"),
             requiring!(OpenOrCreate 2 1, "k" "v" "k"),
-            Said::List,
-            Said::Close(64),
-            Said::Close(1),
+            Step::List,
+            Step::Close(64),
+            Step::Close(1),
         ],
         &[
-            Told::Opened(0, 0),
-            Told::NoSlot,
-            Told::InUse,
+            ShortReply::Opened(0, 0),
+            ShortReply::NoSlot,
+            ShortReply::InUse,
             LACKING,
             LACKING,
-            Told::Opened(1, 0),
-            Told::Listed(1, Some(36)),
-            Told::NoSlot,
-            Told::Closed(1),
+            ShortReply::Opened(1, 0),
+            ShortReply::Listed(1, Some(36)),
+            ShortReply::NoSlot,
+            ShortReply::Closed(1),
         ],
         (0, UNHELD, 2),
     ),
@@ -322,10 +322,10 @@ fn replies<S: TableStorage>(
     rt: &impl Abort,
     alloc: Global,
     session: &mut Session<S>,
-    said: &[Said],
+    steps: &[Step],
 ) -> Vec<Reply> {
     let mut replies = Vec::new(alloc);
-    for each in said {
+    for each in steps {
         push(
             rt,
             &mut replies,
@@ -340,10 +340,10 @@ fn replies_at_once(
     rt: &impl Abort,
     alloc: Global,
     session: &mut TableSession,
-    said: &[Said],
+    steps: &[Step],
 ) -> Vec<Reply> {
     let mut commands = Vec::new(alloc);
-    for each in said {
+    for each in steps {
         push(rt, &mut commands, command_of(rt, alloc, *each));
     }
     granted(rt, session.run(commands))
@@ -361,7 +361,7 @@ fn end(rt: &impl Abort, alloc: Global, session: TableSession) -> End {
 }
 
 /// What replies are.
-fn shortened(rt: &impl Abort, alloc: Global, replies: &[Reply]) -> Vec<Told> {
+fn shortened(rt: &impl Abort, alloc: Global, replies: &[Reply]) -> Vec<ShortReply> {
     granted(rt, replies.iter().map(in_short).collect(alloc))
 }
 
@@ -369,41 +369,49 @@ fn shortened(rt: &impl Abort, alloc: Global, replies: &[Reply]) -> Vec<Told> {
 fn both(
     rt: &impl Abort,
     alloc: Global,
-    &(has_deadline, said, _, _): &Row,
-) -> [(Vec<Told>, End); 2] {
+    &(has_deadline, steps, _, _): &Case,
+) -> [(Vec<ShortReply>, End); 2] {
     let mut session = started(alloc, has_deadline);
-    let one_by_one = shortened(rt, alloc, replies(rt, alloc, &mut session, said).as_slice());
+    let one_by_one = shortened(
+        rt,
+        alloc,
+        replies(rt, alloc, &mut session, steps).as_slice(),
+    );
     let first = end(rt, alloc, session);
     let mut session = started(alloc, has_deadline);
     let at_once = shortened(
         rt,
         alloc,
-        replies_at_once(rt, alloc, &mut session, said).as_slice(),
+        replies_at_once(rt, alloc, &mut session, steps).as_slice(),
     );
     [(one_by_one, first), (at_once, end(rt, alloc, session))]
 }
 
 /// What it is to answer, and its end.
-fn wanted(rt: &impl Abort, alloc: Global, &(_, _, told, end): &Row) -> (Vec<Told>, End) {
-    (granted(rt, told.to_vec(alloc)), end)
+fn wanted(
+    rt: &impl Abort,
+    alloc: Global,
+    &(_, _, replies_wanted, end): &Case,
+) -> (Vec<ShortReply>, End) {
+    (granted(rt, replies_wanted.to_vec(alloc)), end)
 }
 
 #[test]
 fn a_session_answers_commands_one_by_one_as_in_one_go(rt: HostRuntime) {
     let alloc = rt.alloc();
-    for (row, each) in ROWS.iter().enumerate() {
+    for (row, each) in CASES.iter().enumerate() {
         let both_wanted = [wanted(&rt, alloc, each), wanted(&rt, alloc, each)];
         assert_same(&rt, (row, both(&rt, alloc, each)), (row, both_wanted));
     }
 }
 
 /// A create, an open into a slot that is taken, one into a free slot, a list and a close, in that order.
-const COMMANDS: &[Said] = &[
+const COMMANDS: &[Step] = &[
     call!(Create 1 0 "a"),
     call!(Open 2 0 "a"),
     call!(Open 2 1 "a"),
-    Said::List,
-    Said::Close(1),
+    Step::List,
+    Step::Close(1),
 ];
 
 /// A session over a new table that is traced.
@@ -433,12 +441,12 @@ fn over_a_traced_table_a_session_answers_as_over_a_table(rt: HostRuntime) {
 fn carried_out<S: WorldStorage>(rt: &impl Abort, alloc: Global, storage: S) -> (Vec<Reply>, S) {
     let mut session = Session::over(Config::default(), storage);
     let mut replies = Vec::new(alloc);
-    for said in COMMANDS {
+    for steps in COMMANDS {
         session.refresh();
         push(
             rt,
             &mut replies,
-            session.carry_out(command_of(rt, alloc, *said)),
+            session.carry_out(command_of(rt, alloc, *steps)),
         );
     }
     (replies, session.close_all())
@@ -448,8 +456,8 @@ fn carried_out<S: WorldStorage>(rt: &impl Abort, alloc: Global, storage: S) -> (
 fn all_carried_out<S: WorldStorage>(rt: &impl Abort, alloc: Global, storage: S) -> (Vec<Reply>, S) {
     let mut session = Session::over(Config::default(), storage);
     let mut commands = Vec::new(alloc);
-    for said in COMMANDS {
-        push(rt, &mut commands, command_of(rt, alloc, *said));
+    for steps in COMMANDS {
+        push(rt, &mut commands, command_of(rt, alloc, *steps));
     }
     let replies = granted(rt, session.carry_out_all(commands));
     (replies, session.close_all())
@@ -478,8 +486,8 @@ fn over_a_world_commands_are_answered_as_over_its_table(rt: HostRuntime) {
 fn accesses_of_commands(rt: &impl Abort, alloc: Global) -> Vec<u64> {
     let mut session = over_traced(rt, alloc);
     let mut counts = Vec::new(alloc);
-    for said in COMMANDS {
-        let _reply = session.apply(command_of(rt, alloc, *said));
+    for steps in COMMANDS {
+        let _reply = session.apply(command_of(rt, alloc, *steps));
         push(rt, &mut counts, session.storage().total());
     }
     let storage = session.finish();

@@ -4,12 +4,12 @@ use iceoryx2_access::storage::{ServiceNameHasher, Sha1Hasher};
 use iceoryx2_attribute::attribute::{AttributeSpecifier, AttributeVerifier};
 use iceoryx2_description::description::{ServiceHash, ServiceName};
 use iceoryx2_table::table::Table;
-use iceoryx2_world::listing::Entry;
+use iceoryx2_world::listing::ListedService;
 use std::alloc::Global;
 use std::fmt::Debug;
 use std::process::Abort;
 use test_support::listing;
-pub use test_support::listing::{Row, Segment};
+pub use test_support::listing::{RowSummary, Segment};
 
 /// Pairs of a key and a value.
 pub type Pairs = &'static [(&'static str, &'static str)];
@@ -91,7 +91,7 @@ pub fn verifier(alloc: Global, pairs: Pairs, keys: Keys) -> AttributeVerifier {
 }
 
 /// What a table lists.
-pub fn entries(rt: &impl Abort, table: &Table) -> Vec<Entry> {
+pub fn entries(rt: &impl Abort, table: &Table) -> Vec<ListedService> {
     granted(rt, table.list())
 }
 
@@ -114,7 +114,7 @@ pub fn holdings(table: &Table, hash: &ServiceHash) -> Holdings {
 
 /// What a table has of its only service, or of none: the row, the segment, what nodes 1 and 2 hold, and the
 /// counter.
-pub type Contents = (Row, Segment, Holdings, u64);
+pub type Contents = (RowSummary, Segment, Holdings, u64);
 
 /// What a table has of the service of this hash, which is its only one.
 pub fn contents(rt: &impl Abort, table: &Table, hash: &ServiceHash) -> Contents {
@@ -131,14 +131,14 @@ pub const REGISTRATION: Holding = (true, 1);
 pub const UNHELD: Holdings = (NOTHING, NOTHING);
 
 /// A new table.
-pub const NEW: Contents = (Row::Absent, None, UNHELD, 0);
+pub const NEW: Contents = (RowSummary::Absent, None, UNHELD, 0);
 
 /// A table that has handed out a number, with nothing in it.
-pub const EMPTY: Contents = (Row::Absent, None, UNHELD, 1);
+pub const EMPTY: Contents = (RowSummary::Absent, None, UNHELD, 1);
 
 /// The first service of a table, for 36 nodes, of node 1 alone.
 pub const OF_ONE: Contents = (
-    Row::Published(0),
+    RowSummary::Published(0),
     Some((0, 36, 1, false)),
     (REGISTRATION, NOTHING),
     1,
@@ -146,7 +146,7 @@ pub const OF_ONE: Contents = (
 
 /// The first service of a table, of both nodes.
 pub const OF_BOTH: Contents = (
-    Row::Published(0),
+    RowSummary::Published(0),
     Some((0, 36, 2, false)),
     (REGISTRATION, REGISTRATION),
     2,

@@ -10,7 +10,7 @@ use iceoryx2_access::storage::{
 use iceoryx2_attribute::attribute::AttributeSet;
 use iceoryx2_description::description::{MessagingPattern, ServiceHash, StaticConfig};
 use iceoryx2_table::table::Table;
-use iceoryx2_world::listing::{Entry, ListedRow, ListedSegment};
+use iceoryx2_world::listing::{ListedRow, ListedSegment, ListedService};
 use std::alloc::Global;
 use std::process::Abort;
 use test_support::settings::events;
@@ -244,9 +244,9 @@ const THREE_LOCKS: Accesses = accesses! {
 };
 
 /// What an entry has: its hash, the number of its lock, and its segment.
-type Told = (ServiceHash, Option<u64>, Option<ListedSegment>);
+type ShortEntry = (ServiceHash, Option<u64>, Option<ListedSegment>);
 
-fn told(entry: &Entry) -> Told {
+fn short_entry(entry: &ListedService) -> ShortEntry {
     let number = match &entry.row {
         ListedRow::Locked(number) => Some(*number),
         _ => None,
@@ -255,7 +255,7 @@ fn told(entry: &Entry) -> Told {
 }
 
 /// A service with a segment of this number, for so many nodes, of which so many are in it.
-macro_rules! told {
+macro_rules! short_entry {
     ($locked:expr, $number:expr, $max_nodes:literal, $participants:literal) => {
         (
             SERVICE,
@@ -272,15 +272,15 @@ macro_rules! told {
 
 /// Where a table's counter begins, accesses with their answers, where it is then, what is listed, and what nodes
 /// 1 and 2 hold.
-type Row = (u64, Accesses, u64, &'static [Told], Holdings);
+type Case = (u64, Accesses, u64, &'static [ShortEntry], Holdings);
 
 /// Tables, access by access.
-const ROWS: &[Row] = &[
+const CASES: &[Case] = &[
     (
         0,
         CREATED,
         1,
-        &[told!(None, 0, 36, 1)],
+        &[short_entry!(None, 0, 36, 1)],
         ((false, 1), NOTHING),
     ),
     (0, OPENED_AND_REMOVED, 3, &[], UNHELD),
@@ -296,12 +296,18 @@ const ROWS: &[Row] = &[
         u64::MAX - 1,
         LAST_NUMBER,
         u64::MAX,
-        &[told!(None, u64::MAX - 1, 36, 1)],
+        &[short_entry!(None, u64::MAX - 1, 36, 1)],
         ((false, 1), NOTHING),
     ),
     // rows and segments are listed together
-    (0, LEFT_ALONE, 1, &[told!(None, 0, 5, 1)], UNHELD),
-    (0, LEFT_OF_A_LOCK, 2, &[told!(Some(1), 0, 5, 1)], UNHELD),
+    (0, LEFT_ALONE, 1, &[short_entry!(None, 0, 5, 1)], UNHELD),
+    (
+        0,
+        LEFT_OF_A_LOCK,
+        2,
+        &[short_entry!(Some(1), 0, 5, 1)],
+        UNHELD,
+    ),
     // services are listed in the order of their hashes
     (
         0,
@@ -319,7 +325,7 @@ const ROWS: &[Row] = &[
         0,
         OPENED_TWICE,
         2,
-        &[told!(None, 0, 36, 1)],
+        &[short_entry!(None, 0, 36, 1)],
         ((true, 2), NOTHING),
     ),
 ];
@@ -329,12 +335,12 @@ const ROWS: &[Row] = &[
 fn after(
     rt: &impl Abort,
     alloc: Global,
-    (row, &(counter, accesses, _, entries, _)): (usize, &Row),
+    (row, &(counter, accesses, _, entries, _)): (usize, &Case),
 ) -> (u64, bool, [Holdings; 2]) {
     let table = driven(rt, alloc, counter, (row, accesses));
     let mut all = Vec::new(alloc);
     for entry in &crate::support::entries(rt, &table) {
-        push(rt, &mut all, told(entry));
+        push(rt, &mut all, short_entry(entry));
     }
     let both = [holdings(&table, &SERVICE), holdings(&table, &OTHER)];
     let counter = table.counter();
@@ -344,7 +350,7 @@ fn after(
 
 #[test]
 fn a_table_answers_access_by_access_and_lists_what_is_there(rt: HostRuntime) {
-    for (row, each) in ROWS.iter().enumerate() {
+    for (row, each) in CASES.iter().enumerate() {
         let found = after(&rt, rt.alloc(), (row, each));
         assert_same(&rt, (row, found), (row, (each.2, true, [each.4, UNHELD])));
     }

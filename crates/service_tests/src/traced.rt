@@ -4,35 +4,35 @@ use crate::calls::*;
 use crate::faults::faulty_over;
 use crate::scripts::{Letter, Parts, script};
 use iceoryx2_access::storage::{Existence, PublishError, Release, Storage, Tag};
-use iceoryx2_script::script::{FaultyService, Scripted};
 use iceoryx2_table::local::Local;
 use iceoryx2_table::table::Table;
-use iceoryx2_traced::traced::{Entry, Fetched, Traced, TracedService};
+use iceoryx2_testing::script::{FaultyService, Scripted};
+use iceoryx2_testing::traced::{Fetched, Traced, TracedAccess, TracedService};
 use std::alloc::Global;
 use std::process::Abort;
 
 /// The accesses of a create by node 1 that finds nothing, up to the publishing.
-const CREATING: &[Entry] = &[
-    Entry::Exists {
+const CREATING: &[TracedAccess] = &[
+    TracedAccess::Exists {
         hash: HASH,
         answer: Existence::No,
     },
-    Entry::Counts {
+    TracedAccess::Counts {
         node: 1,
         hash: HASH,
         answer: false,
     },
-    Entry::MakeTag {
+    TracedAccess::MakeTag {
         node: 1,
         hash: HASH,
         answer: Ok(Tag::Made),
     },
-    Entry::Lock {
+    TracedAccess::Lock {
         node: 1,
         hash: HASH,
         answer: Ok(0),
     },
-    Entry::MakeSegment {
+    TracedAccess::MakeSegment {
         node: 1,
         hash: HASH,
         number: 0,
@@ -42,7 +42,7 @@ const CREATING: &[Entry] = &[
 ];
 
 /// The publishing, which gives ticket 0.
-const PUBLISHED: &[Entry] = &[Entry::Publish {
+const PUBLISHED: &[TracedAccess] = &[TracedAccess::Publish {
     node: 1,
     hash: HASH,
     number: 0,
@@ -51,12 +51,12 @@ const PUBLISHED: &[Entry] = &[Entry::Publish {
 
 /// The accesses of an open by node 2, which takes ticket 1. The description has 80 bytes, as other
 /// programs write it with its creator.
-const OPENING: &[Entry] = &[
-    Entry::Exists {
+const OPENING: &[TracedAccess] = &[
+    TracedAccess::Exists {
         hash: HASH,
         answer: Existence::Yes,
     },
-    Entry::Fetch {
+    TracedAccess::Fetch {
         node: 2,
         hash: HASH,
         answer: Ok(Fetched {
@@ -64,12 +64,12 @@ const OPENING: &[Entry] = &[
             length: 80,
         }),
     },
-    Entry::MakeTag {
+    TracedAccess::MakeTag {
         node: 2,
         hash: HASH,
         answer: Ok(Tag::Made),
     },
-    Entry::OpenSegment {
+    TracedAccess::OpenSegment {
         node: 2,
         hash: HASH,
         number: 0,
@@ -78,15 +78,15 @@ const OPENING: &[Entry] = &[
 ];
 
 /// Those of its close, while node 1 is there.
-const LEAVING: &[Entry] = &[
-    Entry::Release {
+const LEAVING: &[TracedAccess] = &[
+    TracedAccess::Release {
         ticket: 1,
         node: 2,
         hash: HASH,
         number: 0,
         answer: Ok(Release::Left),
     },
-    Entry::RemoveTag {
+    TracedAccess::RemoveTag {
         node: 2,
         hash: HASH,
         answer: Ok(()),
@@ -94,7 +94,7 @@ const LEAVING: &[Entry] = &[
 ];
 
 /// The release of the last node, node 1.
-const RELEASED: &[Entry] = &[Entry::Release {
+const RELEASED: &[TracedAccess] = &[TracedAccess::Release {
     ticket: 0,
     node: 1,
     hash: HASH,
@@ -103,20 +103,20 @@ const RELEASED: &[Entry] = &[Entry::Release {
 }];
 
 /// The removal of its tag.
-const UNTAGGED: &[Entry] = &[Entry::RemoveTag {
+const UNTAGGED: &[TracedAccess] = &[TracedAccess::RemoveTag {
     node: 1,
     hash: HASH,
     answer: Ok(()),
 }];
 
 /// The removals of the segment and of the description.
-const REMOVED: &[Entry] = &[
-    Entry::RemoveSegment {
+const REMOVED: &[TracedAccess] = &[
+    TracedAccess::RemoveSegment {
         node: 1,
         hash: HASH,
         answer: Ok(()),
     },
-    Entry::RemoveDescription {
+    TracedAccess::RemoveDescription {
         node: 1,
         hash: HASH,
         answer: Ok(()),
@@ -132,7 +132,7 @@ pub fn traced<S: Drop>(rt: &impl Abort, alloc: Global, inner: S, room: usize) ->
 }
 
 /// The entries of these parts.
-fn joined(rt: &impl Abort, alloc: Global, parts: &[&[Entry]]) -> Vec<Entry> {
+fn joined(rt: &impl Abort, alloc: Global, parts: &[&[TracedAccess]]) -> Vec<TracedAccess> {
     let mut entries = Vec::new(alloc);
     for part in parts {
         granted(rt, entries.extend_from_slice(part));
@@ -141,7 +141,7 @@ fn joined(rt: &impl Abort, alloc: Global, parts: &[&[Entry]]) -> Vec<Entry> {
 }
 
 /// The entries that are kept, how many accesses there were, and how many are forgotten.
-type Trace = (Vec<Entry>, u64, u64);
+type Trace = (Vec<TracedAccess>, u64, u64);
 
 /// What a trace is.
 fn seen<S>(rt: &impl Abort, alloc: Global, traced: &Traced<S>) -> Trace {
@@ -152,7 +152,7 @@ fn seen<S>(rt: &impl Abort, alloc: Global, traced: &Traced<S>) -> Trace {
 
 /// A room, calls with their answers, the parts of the trace after them, how many accesses there were, and
 /// how many of them are forgotten.
-type Run = (usize, Steps, &'static [&'static [Entry]], (u64, u64));
+type Run = (usize, Steps, &'static [&'static [TracedAccess]], (u64, u64));
 
 /// The trace of a run over a new table.
 fn of_table(rt: &impl Abort, alloc: Global, (row, &(room, steps, _, _)): (usize, &Run)) -> Trace {
@@ -215,7 +215,7 @@ const NOT_PUBLISHED: Steps = &[(
 )];
 
 /// The refused publishing.
-const REFUSED: &[Entry] = &[Entry::Publish {
+const REFUSED: &[TracedAccess] = &[TracedAccess::Publish {
     node: 1,
     hash: HASH,
     number: 0,

@@ -31,7 +31,7 @@ fn other_opens(rt: &impl Abort, alloc: Global, table: &mut Table) -> [Answer; 2]
 }
 
 /// What the messages of a service of publish-subscribe are made of.
-const MESSAGE: [crate::types::Told<'static>; 3] = [
+const MESSAGE: [crate::types::TypeFacts<'static>; 3] = [
     (FixedSize, "publish_subscribe::Header", 32, 8),
     U32,
     (FixedSize, "i64", 8, 16),

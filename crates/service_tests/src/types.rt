@@ -19,19 +19,19 @@ use std::mem::{align_of, size_of};
 use std::process::Abort;
 
 /// What is known of a type: its variant, its name, its size and its alignment.
-pub type Told<'a> = (TypeVariant, &'a str, u64, u64);
+pub type TypeFacts<'a> = (TypeVariant, &'a str, u64, u64);
 
-/// What is told of one `i64`.
-pub const I64: Told<'static> = (FixedSize, "i64", 8, 8);
+/// What is known of one `i64`.
+pub const I64: TypeFacts<'static> = (FixedSize, "i64", 8, 8);
 
-/// What is told of a number of them.
-pub const SLICE: Told<'static> = (Dynamic, "i64", 8, 8);
+/// What is known of a number of them.
+pub const SLICE: TypeFacts<'static> = (Dynamic, "i64", 8, 8);
 
-/// What is told of `u32`.
-pub const U32: Told<'static> = (FixedSize, "u32", 4, 4);
+/// What is known of `u32`.
+pub const U32: TypeFacts<'static> = (FixedSize, "u32", 4, 4);
 
-/// What each type says of itself.
-const TYPES: [Told<'static>; 22] = [
+/// What each type gives of itself.
+const TYPES: [TypeFacts<'static>; 22] = [
     (FixedSize, "()", 0, 1),
     (FixedSize, "bool", 1, 1),
     (FixedSize, "u8", 1, 1),
@@ -56,36 +56,36 @@ const TYPES: [Told<'static>; 22] = [
     (Dynamic, "CustomPayloadMarker", 1, 1),
 ];
 
-/// What a type says of itself.
-fn said<T: ZeroCopySend>() -> Told<'static> {
+/// What a type gives of itself.
+fn constants_of<T: ZeroCopySend>() -> TypeFacts<'static> {
     (T::variant(), T::type_name(), T::size(), T::alignment())
 }
 
 #[test]
 fn each_type_says_its_constants(rt: HostRuntime) {
     let found = [
-        said::<()>(),
-        said::<bool>(),
-        said::<u8>(),
-        said::<i8>(),
-        said::<u16>(),
-        said::<i16>(),
-        said::<u32>(),
-        said::<i32>(),
-        said::<u64>(),
-        said::<i64>(),
-        said::<usize>(),
-        said::<isize>(),
-        said::<u128>(),
-        said::<i128>(),
-        said::<CustomHeaderMarker>(),
-        said::<CustomPayloadMarker>(),
-        said::<CustomKeyMarker>(),
-        said::<Header>(),
-        said::<RequestHeader>(),
-        said::<ResponseHeader>(),
-        said::<Slice<u16>>(),
-        said::<Slice<CustomPayloadMarker>>(),
+        constants_of::<()>(),
+        constants_of::<bool>(),
+        constants_of::<u8>(),
+        constants_of::<i8>(),
+        constants_of::<u16>(),
+        constants_of::<i16>(),
+        constants_of::<u32>(),
+        constants_of::<i32>(),
+        constants_of::<u64>(),
+        constants_of::<i64>(),
+        constants_of::<usize>(),
+        constants_of::<isize>(),
+        constants_of::<u128>(),
+        constants_of::<i128>(),
+        constants_of::<CustomHeaderMarker>(),
+        constants_of::<CustomPayloadMarker>(),
+        constants_of::<CustomKeyMarker>(),
+        constants_of::<Header>(),
+        constants_of::<RequestHeader>(),
+        constants_of::<ResponseHeader>(),
+        constants_of::<Slice<u16>>(),
+        constants_of::<Slice<CustomPayloadMarker>>(),
     ];
     assert_same(&rt, found, TYPES);
 }
@@ -122,8 +122,8 @@ impl ZeroCopySend for MyPayload {
     }
 }
 
-/// What is told of a type.
-fn told(detail: &TypeDetail) -> Told {
+/// What is known of a type.
+fn facts_of(detail: &TypeDetail) -> TypeFacts {
     (
         detail.variant(),
         detail.type_name(),
@@ -132,34 +132,34 @@ fn told(detail: &TypeDetail) -> Told {
     )
 }
 
-/// Whether this is told of a message's header, user header and payload.
-pub fn consists_of(message: &MessageTypeDetails, wanted: [Told; 3]) -> bool {
+/// Whether this is known of a message's header, user header and payload.
+pub fn consists_of(message: &MessageTypeDetails, wanted: [TypeFacts; 3]) -> bool {
     let found = [
-        told(message.header()),
-        told(message.user_header()),
-        told(message.payload()),
+        facts_of(message.header()),
+        facts_of(message.user_header()),
+        facts_of(message.payload()),
     ];
     found == wanted
 }
 
 /// What a message of one value of the tests' own type is made of.
-const OWN: [Told<'static>; 3] = [
+const OWN: [TypeFacts<'static>; 3] = [
     (FixedSize, "i32", 4, 4),
     (FixedSize, "i64", 8, 8),
     (FixedSize, "MyPayload", 16, 8),
 ];
 
 /// What a message of a number of values is made of.
-const MANY: [Told<'static>; 3] = [
+const MANY: [TypeFacts<'static>; 3] = [
     (FixedSize, "i32", 4, 4),
     (FixedSize, "bool", 1, 1),
     (Dynamic, "i64", 8, 8),
 ];
 
 /// What a message of publish-subscribe, or a request and then a response, is made of.
-pub type Messages = &'static [[Told<'static>; 3]];
+pub type Messages = &'static [[TypeFacts<'static>; 3]];
 
-/// Whether this is told of a service's messages, or of its requests and responses.
+/// Whether this is known of a service's messages, or of its requests and responses.
 pub fn are_of(pattern: &MessagingPattern, messages: Messages) -> bool {
     match (pattern, messages) {
         (MessagingPattern::PublishSubscribe(settings), [message]) => {
@@ -185,8 +185,8 @@ fn a_message_holds_what_its_types_say(rt: HostRuntime) {
 }
 
 /// The details of a type.
-pub fn detail(rt: &impl Abort, alloc: Global, told: Told) -> TypeDetail {
-    let (variant, name, size, alignment) = told;
+pub fn detail(rt: &impl Abort, alloc: Global, facts_of: TypeFacts) -> TypeDetail {
+    let (variant, name, size, alignment) = facts_of;
     granted(rt, TypeDetail::new(alloc, variant, name, size, alignment))
 }
 
@@ -220,7 +220,7 @@ fn a_message_fits_one_that_is_aligned_further(rt: HostRuntime) {
 }
 
 /// Payloads in place of an `i64`, alignments that are asked, and what the payload is then.
-const OVERRIDES: &[(Option<Told<'static>>, u64, Told<'static>)] = &[
+const OVERRIDES: &[(Option<TypeFacts<'static>>, u64, TypeFacts<'static>)] = &[
     (None, 4, (FixedSize, "i64", 8, 8)),
     (None, 16, (FixedSize, "i64", 8, 16)),
     (
@@ -236,17 +236,20 @@ const OVERRIDES: &[(Option<Told<'static>>, u64, Told<'static>)] = &[
 fn overrides_to(
     rt: &impl Abort,
     alloc: Global,
-    payload: Option<Told>,
+    payload: Option<TypeFacts>,
     alignment: u64,
-    wanted: Told,
+    wanted: TypeFacts,
 ) -> bool {
     let payload = match payload {
-        Some(told) => Some(detail(rt, alloc, told)),
+        Some(facts_of) => Some(detail(rt, alloc, facts_of)),
         None => None,
     };
     let message = MessageTypeDetails::from::<Header, (), i64>(alloc, FixedSize);
     let overridden = granted(rt, message).with_overrides(None, payload, Alignment::new(alignment));
-    consists_of(&overridden, [said::<Header>(), said::<()>(), wanted])
+    consists_of(
+        &overridden,
+        [constants_of::<Header>(), constants_of::<()>(), wanted],
+    )
 }
 
 #[test]

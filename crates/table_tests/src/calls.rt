@@ -6,12 +6,12 @@ use iceoryx2_access::storage::{Service, Storage};
 use iceoryx2_builder::builder::Node;
 use iceoryx2_commands::command::How;
 use iceoryx2_description::time::Time;
-use iceoryx2_port_factory::port_factory::Registration;
+use iceoryx2_rounds::port_factory::Registration;
 use std::alloc::Global;
 use std::process::Abort;
 use test_support::calls::{self, Called, plainly};
 use test_support::patterns::Pattern;
-use test_support::refusals::{Said, said};
+use test_support::refusals::{Reason, pattern_and_reason};
 
 /// A call for the service of a pattern, and how it is made.
 #[derive(Clone, Copy, Debug, PartialEq, Eq)]
@@ -55,7 +55,7 @@ pub fn answer<S: Service>(
 pub type Given = (u64, Settings);
 
 /// What a call is answered: what it gives, or a refusal of which pattern, and what that says.
-pub type Answered = Result<Given, (Pattern, Said)>;
+pub type Answered = Result<Given, (Pattern, Reason)>;
 
 /// Spends what a call gives without an access, and tells what it was.
 pub fn given(called: Called) -> Answered {
@@ -66,7 +66,7 @@ pub fn given(called: Called) -> Answered {
             registration.abandon();
             Ok(given)
         }
-        Err(refusal) => Err(said(refusal)),
+        Err(refusal) => Err(pattern_and_reason(refusal)),
     }
 }
 

@@ -101,9 +101,9 @@ pub fn described(
     rt: &impl Abort,
     alloc: Global,
     (hash, text): (ServiceHash, &str),
-    said: Settings,
+    chosen: Settings,
 ) -> StaticConfig {
-    let pattern = match said {
+    let pattern = match chosen {
         Settings::Event(numbers) => MessagingPattern::Event(settings::events(numbers)),
         Settings::PublishSubscribe(numbers, overflow) => {
             let message = message::<Header>(rt, alloc);
@@ -126,14 +126,14 @@ pub fn described(
 /// The settings that a description says.
 pub fn settings_in(description: &StaticConfig) -> Settings {
     match description.messaging_pattern() {
-        MessagingPattern::Event(said) => Settings::Event(settings::numbers_of_events(said)),
-        MessagingPattern::PublishSubscribe(said) => {
-            let numbers = settings::numbers_of_messages(said);
-            Settings::PublishSubscribe(numbers, said.enable_safe_overflow)
+        MessagingPattern::Event(chosen) => Settings::Event(settings::numbers_of_events(chosen)),
+        MessagingPattern::PublishSubscribe(chosen) => {
+            let numbers = settings::numbers_of_messages(chosen);
+            Settings::PublishSubscribe(numbers, chosen.enable_safe_overflow)
         }
-        MessagingPattern::RequestResponse(said) => {
-            let flags = settings::flags_of_requests(said);
-            Settings::RequestResponse(flags, settings::numbers_of_requests(said))
+        MessagingPattern::RequestResponse(chosen) => {
+            let flags = settings::flags_of_requests(chosen);
+            Settings::RequestResponse(flags, settings::numbers_of_requests(chosen))
         }
     }
 }

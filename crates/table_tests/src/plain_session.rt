@@ -1,8 +1,10 @@
-//! Commands over a table of either body: over the one in sorted vectors by the session itself, and over the
-//! plain one by places that are written from the terms of its commands.
+//! Commands over a table of each body: over the one in sorted vectors and the one in trees by the session itself,
+//! and over the plain one by places that are written from the terms of its commands.
 
 use iceoryx2_commands::command::{Command, Reply, SLOTS};
 use iceoryx2_description::config::Config;
+use iceoryx2_large_table::local::ManyLocal;
+use iceoryx2_large_table::table::LargeTable;
 use iceoryx2_session::session::Session;
 use iceoryx2_table::local::Local;
 use iceoryx2_table::table::Table;
@@ -46,6 +48,26 @@ impl Commanded for Local {
     }
 
     fn finish(_rt: &impl Abort, commands: Session<Table>) -> Table {
+        commands.finish()
+    }
+}
+
+impl Commanded for ManyLocal {
+    type Commands = Session<LargeTable>;
+
+    fn over(_rt: &impl Abort, _alloc: Global, table: LargeTable) -> Session<LargeTable> {
+        Session::new(Config::default(), table)
+    }
+
+    fn apply(_rt: &impl Abort, commands: &mut Session<LargeTable>, command: Command) -> Reply {
+        commands.apply(command)
+    }
+
+    fn table(commands: &Session<LargeTable>) -> &LargeTable {
+        commands.storage()
+    }
+
+    fn finish(_rt: &impl Abort, commands: Session<LargeTable>) -> LargeTable {
         commands.finish()
     }
 }

@@ -1,4 +1,4 @@
-//! Commands that are drawn by chance beside peers whose steps are drawn too, over both bodies.
+//! Commands that are drawn by chance beside peers whose steps are drawn too, over each body.
 
 use self::Deed::*;
 use crate::batches::support::{DEFAULTS, Deed, FOR_TWO, PUBLISHED, REPLACED, Subject, push_steps};
@@ -7,9 +7,10 @@ use crate::plain_session::Commanded;
 use crate::support::{assert_same, command_with, draw, entries, for_nodes, no_settings, push};
 use iceoryx2_attribute::attribute::AttributeVerifier;
 use iceoryx2_commands::command::{Command, How, Reply, SLOTS, Settings};
+use iceoryx2_large_table::local::ManyLocal;
 use iceoryx2_table::local::Local;
 use iceoryx2_table::table::Step;
-use iceoryx2_world::listing::Entry;
+use iceoryx2_world::listing::ListedService;
 use plain_table::plain::Plain;
 use std::alloc::Global;
 use std::process::Abort;
@@ -142,7 +143,7 @@ fn drawn_command(rt: &impl Abort, alloc: Global, seed: &mut u64) -> Command {
 
 /// What a command is answered, and what a body's table lists and tells then: its counter, how many steps
 /// found no memory, and how many batches wait.
-type Seen = (Reply, Vec<Entry>, u64, u64, usize);
+type Seen = (Reply, Vec<ListedService>, u64, u64, usize);
 
 /// What is seen of a command.
 fn seen<B: Commanded>(rt: &impl Abort, commands: &mut B::Commands, command: Command) -> Seen {
@@ -159,7 +160,7 @@ fn seen<B: Commanded>(rt: &impl Abort, commands: &mut B::Commands, command: Comm
 }
 
 /// What is listed once all slots are closed, and the counter then.
-fn finished<B: Commanded>(rt: &impl Abort, commands: B::Commands) -> (Vec<Entry>, u64) {
+fn finished<B: Commanded>(rt: &impl Abort, commands: B::Commands) -> (Vec<ListedService>, u64) {
     let table = B::finish(rt, commands);
     let left = (entries(rt, B::list(&table)), B::counter(&table));
     B::let_go(table);
@@ -223,42 +224,48 @@ fn count(tally: &mut Tally, pattern: Option<Pattern>, reply: &Reply) {
     }
 }
 
-/// Draws a command twice from the same seed, carries it out over both bodies and compares what is seen.
+/// Draws a command from the same seed for each body, carries it out there and compares what is seen.
 fn compare(
     rt: &impl Abort,
     alloc: Global,
     place: (u64, u64),
-    (in_vectors, in_plain): (
+    (in_vectors, in_trees, in_plain): (
         &mut <Local as Commanded>::Commands,
+        &mut <ManyLocal as Commanded>::Commands,
         &mut <Plain as Commanded>::Commands,
     ),
     (seed, tally): (&mut u64, &mut Tally),
 ) {
-    let mut again = *seed;
+    let (mut again, mut once_more) = (*seed, *seed);
     let command = drawn_command(rt, alloc, seed);
     let pattern = pattern_of(&command);
     let found = seen::<Local>(rt, in_vectors, command);
     count(tally, pattern, &found.0);
     let wanted = seen::<Plain>(rt, in_plain, drawn_command(rt, alloc, &mut again));
+    let also = seen::<ManyLocal>(rt, in_trees, drawn_command(rt, alloc, &mut once_more));
+    assert_same(rt, (place, &also), (place, &wanted));
     assert_same(rt, (place, found), (place, wanted));
 }
 
-/// Compares the two bodies in one schedule, which follows from its seed.
+/// Compares the bodies in one schedule, which follows from its seed.
 fn compare_all(rt: &impl Abort, alloc: Global, schedule: u64, tally: &mut Tally) {
-    let (mut seed, mut again) = (schedule, schedule);
+    let (mut seed, mut once_more, mut again) = (schedule, schedule, schedule);
     let mut in_vectors = started::<Local>(rt, alloc, &mut seed);
+    let mut in_trees = started::<ManyLocal>(rt, alloc, &mut once_more);
     let mut in_plain = started::<Plain>(rt, alloc, &mut again);
     for command in 0..COMMANDS {
         compare(
             rt,
             alloc,
             (schedule, command),
-            (&mut in_vectors, &mut in_plain),
+            (&mut in_vectors, &mut in_trees, &mut in_plain),
             (&mut seed, tally),
         );
     }
-    let found = finished::<Local>(rt, in_vectors);
-    assert_same(rt, found, finished::<Plain>(rt, in_plain));
+    let wanted = finished::<Plain>(rt, in_plain);
+    let also = finished::<ManyLocal>(rt, in_trees);
+    assert_same(rt, &also, &wanted);
+    assert_same(rt, finished::<Local>(rt, in_vectors), wanted);
 }
 
 /// The fewest calls of a pattern that are granted in the schedules of a test, and the fewest that are
@@ -276,7 +283,7 @@ fn too_few(tally: Tally) -> Option<Outcomes> {
     None
 }
 
-/// Compares the two bodies in the schedules whose seeds begin with this one.
+/// Compares the bodies in the schedules whose seeds begin with this one.
 fn compare_from(rt: &impl Abort, alloc: Global, first: u64) {
     let mut tally = Tally {
         events: NONE,

@@ -8,7 +8,7 @@ use iceoryx2_builder::builder::{Builder, event, publish_subscribe, request_respo
 use iceoryx2_commands::command::{self as commands, Command, How, Refusal, Settings};
 use iceoryx2_description::description::ServiceName;
 use iceoryx2_description::time::{ClockFault, Time};
-use iceoryx2_port_factory::port_factory::Registration;
+use iceoryx2_rounds::port_factory::Registration;
 use iceoryx2_types::types::{CustomHeaderMarker, CustomPayloadMarker, Slice, ZeroCopySend};
 
 /// A builder of publish-subscribe with markers in place of types.

@@ -1,11 +1,11 @@
 //! What a table lists, without hashes and bytes.
 
 use iceoryx2_description::description::ServiceHash;
-use iceoryx2_world::listing::{Entry, ListedRow, ListedSegment};
+use iceoryx2_world::listing::{ListedRow, ListedSegment, ListedService};
 
 /// What is written under a service's hash, without the bytes.
 #[derive(Clone, Copy, Debug, PartialEq, Eq)]
-pub enum Row {
+pub enum RowSummary {
     Absent,
     Locked(u64),
     Published(u64),
@@ -15,16 +15,16 @@ pub enum Row {
 pub type Segment = Option<(u64, u64, u64, bool)>;
 
 /// What is listed of a row, without the bytes.
-fn row_of(entry: &Entry) -> Row {
+fn row_of(entry: &ListedService) -> RowSummary {
     match entry.row {
-        ListedRow::Absent => Row::Absent,
-        ListedRow::Locked(number) => Row::Locked(number),
-        ListedRow::Published(number, _) => Row::Published(number),
+        ListedRow::Absent => RowSummary::Absent,
+        ListedRow::Locked(number) => RowSummary::Locked(number),
+        ListedRow::Published(number, _) => RowSummary::Published(number),
     }
 }
 
 /// What is listed of a segment.
-fn segment_of(entry: &Entry) -> Segment {
+fn segment_of(entry: &ListedService) -> Segment {
     let ListedSegment {
         number,
         max_nodes,
@@ -35,20 +35,20 @@ fn segment_of(entry: &Entry) -> Segment {
 }
 
 /// The row and the segment of the only service that is listed, or of none. Where more are listed, nothing.
-pub fn only_one(entries: &[Entry]) -> Option<(Row, Segment)> {
+pub fn only_one(entries: &[ListedService]) -> Option<(RowSummary, Segment)> {
     match entries {
-        [] => Some((Row::Absent, None)),
+        [] => Some((RowSummary::Absent, None)),
         [entry] => Some((row_of(entry), segment_of(entry))),
         _ => None,
     }
 }
 
 /// The row and the segment that are listed under a hash.
-pub fn row_and_segment_of(entries: &[Entry], hash: &ServiceHash) -> (Row, Segment) {
+pub fn row_and_segment_of(entries: &[ListedService], hash: &ServiceHash) -> (RowSummary, Segment) {
     for entry in entries {
         if entry.hash == *hash {
             return (row_of(entry), segment_of(entry));
         }
     }
-    (Row::Absent, None)
+    (RowSummary::Absent, None)
 }

@@ -1,4 +1,4 @@
-//! What the refusals of all patterns say, in the same words.
+//! The reasons of the refusals of all patterns, in the same words.
 
 use crate::patterns::Pattern;
 use iceoryx2_commands::command::{How, Refusal};
@@ -39,7 +39,7 @@ pub enum By {
 }
 
 /// The call, which of its errors says why it is refused, and why.
-pub type Said = (How, By, Word);
+pub type Reason = (How, By, Word);
 
 /// The word of an error by the names that it shares with those of the other patterns. All others match the
 /// pattern that stands in front, if one does.
@@ -75,8 +75,8 @@ macro_rules! create_word {
     };
 }
 
-/// What the error of an open or create says.
-macro_rules! said_by_rounds {
+/// The reason in the error of an open or create.
+macro_rules! reason_by_rounds {
     ($error:ident, $kind:ident, $open:ident, $create:ident $(, $other:pat)?) => {
         match $error {
             $kind::$open(error) => (How::OpenOrCreate, By::Open, open_word!(error, $open)),
@@ -88,53 +88,53 @@ macro_rules! said_by_rounds {
     };
 }
 
-/// What a refusal of an open says.
-macro_rules! said_by_open {
+/// The reason in a refusal of an open.
+macro_rules! reason_by_open {
     ($error:ident, $kind:ident) => {
         (How::Open, By::Open, open_word!($error, $kind))
     };
 }
 
-/// What a refusal of a create says.
-macro_rules! said_by_create {
+/// The reason in a refusal of a create.
+macro_rules! reason_by_create {
     ($error:ident, $kind:ident $(, $other:pat)?) => {
         (How::Create, By::Create, create_word!($error, $kind $(, $other)?))
     };
 }
 
-/// What an open or create of events says.
-fn by_events(error: EventOpenOrCreateError) -> Said {
-    said_by_rounds! { error, EventOpenOrCreateError, EventOpenError, EventCreateError }
+/// The reason in the error of an open or create of events.
+fn by_events(error: EventOpenOrCreateError) -> Reason {
+    reason_by_rounds! { error, EventOpenOrCreateError, EventOpenError, EventCreateError }
 }
 
-/// What one of publish-subscribe says.
-fn by_messages(error: PublishSubscribeOpenOrCreateError) -> Said {
-    said_by_rounds! {
+/// The reason in one of publish-subscribe.
+fn by_messages(error: PublishSubscribeOpenOrCreateError) -> Reason {
+    reason_by_rounds! {
         error, PublishSubscribeOpenOrCreateError,
         PublishSubscribeOpenError, PublishSubscribeCreateError, _
     }
 }
 
-/// What one of request-response says.
-fn by_requests(error: RequestResponseOpenOrCreateError) -> Said {
-    said_by_rounds! {
+/// The reason in one of request-response.
+fn by_requests(error: RequestResponseOpenOrCreateError) -> Reason {
+    reason_by_rounds! {
         error, RequestResponseOpenOrCreateError,
         RequestResponseOpenError, RequestResponseCreateError
     }
 }
 
-/// What a refusal says.
-fn of_refusal(refusal: Refusal) -> Said {
+/// The reason of a refusal.
+fn of_refusal(refusal: Refusal) -> Reason {
     match refusal {
-        Refusal::EventOpen(error) => said_by_open!(error, EventOpenError),
-        Refusal::PublishSubscribeOpen(error) => said_by_open!(error, PublishSubscribeOpenError),
-        Refusal::RequestResponseOpen(error) => said_by_open!(error, RequestResponseOpenError),
-        Refusal::EventCreate(error) => said_by_create!(error, EventCreateError),
+        Refusal::EventOpen(error) => reason_by_open!(error, EventOpenError),
+        Refusal::PublishSubscribeOpen(error) => reason_by_open!(error, PublishSubscribeOpenError),
+        Refusal::RequestResponseOpen(error) => reason_by_open!(error, RequestResponseOpenError),
+        Refusal::EventCreate(error) => reason_by_create!(error, EventCreateError),
         Refusal::PublishSubscribeCreate(error) => {
-            said_by_create!(error, PublishSubscribeCreateError, _)
+            reason_by_create!(error, PublishSubscribeCreateError, _)
         }
         Refusal::RequestResponseCreate(error) => {
-            said_by_create!(error, RequestResponseCreateError)
+            reason_by_create!(error, RequestResponseCreateError)
         }
         Refusal::EventOpenOrCreate(error) => by_events(error),
         Refusal::PublishSubscribeOpenOrCreate(error) => by_messages(error),
@@ -156,7 +156,7 @@ fn pattern_of(refusal: Refusal) -> Pattern {
     }
 }
 
-/// The pattern of a refusal, and what it says.
-pub fn said(refusal: Refusal) -> (Pattern, Said) {
+/// The pattern of a refusal, and its reason.
+pub fn pattern_and_reason(refusal: Refusal) -> (Pattern, Reason) {
     (pattern_of(refusal), of_refusal(refusal))
 }

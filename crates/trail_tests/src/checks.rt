@@ -1,7 +1,7 @@
 //! What is found wrong with logs. The places were found by another reader, in Python.
 
 use crate::logs::{LOG, LONGER_HEADER, LONGEST_HEADER, MARK, SNAPSHOT_HEADER};
-use crate::support::{assert_same, copied};
+use crate::support::assert_same;
 use iceoryx2_file_log::header::HeaderError;
 use std::alloc::Global;
 use std::process::Abort;
@@ -11,6 +11,15 @@ use wulameron_trail::checker::{Ending, Found, Sound, Verdict, Wrong, check};
 const ENDS: [u64; 15] = [
     93, 146, 207, 330, 375, 436, 497, 558, 619, 664, 725, 770, 815, 860, 913,
 ];
+
+/// A copy of bytes.
+fn copied(rt: &impl Abort, bytes: &[u8], alloc: Global) -> Vec<u8> {
+    let mut copy = Vec::new(alloc);
+    if copy.extend_from_slice(bytes).is_err() {
+        panic!(rt; "no memory")
+    }
+    copy
+}
 
 /// What a log is, for which there is memory.
 fn checked(rt: &impl Abort, alloc: Global, bytes: &[u8]) -> Verdict {

@@ -241,8 +241,8 @@ fn an_entry_that_is_not_written_whole_has_no_line(rt: HostRuntime) {
 #[test]
 fn damage_ends_a_log(rt: HostRuntime) {
     let found = run_over(&rt, Command::Log(0), &[&LOG, &[0; 8]], &[]);
-    let told = "is damaged at byte 913; begin another log\n";
-    assert_same(&rt, found, wanted(&rt, 3, &[LINES], told));
+    let reported = "is damaged at byte 913; begin another log\n";
+    assert_same(&rt, found, wanted(&rt, 3, &[LINES], reported));
 }
 
 #[test]
@@ -315,8 +315,12 @@ fn a_mark_of_a_move_that_was_not_made_has_no_line(rt: HostRuntime) {
 fn another_log_is_not_followed(rt: HostRuntime) {
     let events = [Event::Moves(&[&LOG[..93], &MARK], &[&ANOTHER_HEADER])];
     let found = run_over(&rt, Command::Follow(0), &[&LOG[..93]], &events);
-    let told = "is another log; start the program again\n";
-    assert_same(&rt, found, wanted(&rt, 3, &[first_lines(LINES, 1)], told));
+    let reported = "is another log; start the program again\n";
+    assert_same(
+        &rt,
+        found,
+        wanted(&rt, 3, &[first_lines(LINES, 1)], reported),
+    );
 }
 
 #[test]
@@ -330,8 +334,12 @@ fn damage_that_passes_is_none(rt: HostRuntime) {
 fn damage_that_stays_is_told(rt: HostRuntime) {
     let damaged = Event::Holds(&[&LOG[..93], &[0; 8]]);
     let found = run_over(&rt, Command::Follow(0), &[&LOG[..93]], &[damaged, damaged]);
-    let told = "is damaged at byte 93; begin another log\n";
-    assert_same(&rt, found, wanted(&rt, 3, &[first_lines(LINES, 1)], told));
+    let reported = "is damaged at byte 93; begin another log\n";
+    assert_same(
+        &rt,
+        found,
+        wanted(&rt, 3, &[first_lines(LINES, 1)], reported),
+    );
 }
 
 #[test]
@@ -367,8 +375,9 @@ fn changes_are_followed_into_another_file(rt: HostRuntime) {
 fn an_entry_that_is_not_answered_ends_it(rt: HostRuntime) {
     let events = [Event::Holds(&[&LOG[..93], &LOG[146..207]])];
     let found = run_over(&rt, Command::Watch, &[&LOG[..93]], &events);
-    let told = "the entry at byte 93 is not what the services before it answer; check the log\n";
-    assert_same(&rt, found, wanted(&rt, 3, &[], told));
+    let reported =
+        "the entry at byte 93 is not what the services before it answer; check the log\n";
+    assert_same(&rt, found, wanted(&rt, 3, &[], reported));
 }
 
 #[test]

@@ -1,4 +1,5 @@
-//! Tests of what is printed of logs, and of what is found wrong with one, with values from outside the program.
+//! Tests of what is printed of logs and of a world, and of what is found wrong with a log, with values from outside the
+//! program.
 //!
 //! Logs that Python wrote are checked whole and with each byte changed, and what is printed of them is compared.
 #![tactic(auto)]
@@ -13,3 +14,5 @@ mod logs;
 mod printing;
 #[cfg(test)]
 mod support;
+#[cfg(test)]
+mod views;

@@ -6,8 +6,8 @@ use crate::patterns::{Pattern, service};
 use crate::support::events;
 use iceoryx2_access::storage::{Existence, MakeSegmentError, OpenSegmentError, Storage};
 use iceoryx2_description::time::Time;
-use iceoryx2_script::script::{Faulty, FaultyService};
 use iceoryx2_table::local::Local;
+use iceoryx2_testing::script::{Faulty, FaultyService};
 use plain_table::body::Body;
 use plain_table::plain::Plain;
 use std::alloc::Global;
@@ -58,7 +58,7 @@ fn looked<B: Body>(rt: &impl Abort, table: &mut B::Storage) -> (Existence, usize
 }
 
 /// What is left before a batch runs.
-const NOTHING: Left = (Row::Absent, None, (false, 0), 0, 0);
+const NOTHING: Left = (RowSummary::Absent, None, (false, 0), 0, 0);
 
 /// How many batches wait and what is left, before the first look and after each of two looks.
 fn read_and_looked<B: Body>(
@@ -149,7 +149,7 @@ fn opened_alone<B: Body>(
 
 #[test]
 fn a_segment_alone_is_not_opened(rt: HostRuntime) {
-    let alone = (Row::Absent, Some((0, 5, 1, false)), (false, 0), 1, 0);
+    let alone = (RowSummary::Absent, Some((0, 5, 1, false)), (false, 0), 1, 0);
     let wanted = (
         (Existence::No, 0, alone),
         Err(OpenSegmentError::Failed),

@@ -7,7 +7,7 @@ use crate::calls::{Call, answer, close};
 use crate::patterns::{self, Pattern, service};
 use iceoryx2_access::storage::{Existence, Storage};
 use iceoryx2_commands::command::How;
-use iceoryx2_port_factory::port_factory::Registration;
+use iceoryx2_rounds::port_factory::Registration;
 use iceoryx2_table::local::Local;
 use plain_table::body::Body;
 use plain_table::plain::Plain;
@@ -30,7 +30,13 @@ const BEING_CREATED: Answer = Err((
 const THERE: Answer = Err((How::Create, By::Create, Word::AlreadyExists));
 
 /// What is left where a peer has published the service.
-const PEERS: Left = (Row::Published(0), Some((0, 36, 1, false)), (false, 0), 1, 0);
+const PEERS: Left = (
+    RowSummary::Published(0),
+    Some((0, 36, 1, false)),
+    (false, 0),
+    1,
+    0,
+);
 
 /// Everything that a peer may do.
 const EVERYTHING: &[Deed] = &[
@@ -51,7 +57,13 @@ const CREATIONS: &[Beside] = &[
         &[(&[1], 7, &[Lock, Make(5), RemoveDescription])],
         Ok((1, DEFAULTS)),
         (1, 0, 2, 8),
-        (Row::Published(1), Some((1, 36, 1, false)), (true, 1), 2, 0),
+        (
+            RowSummary::Published(1),
+            Some((1, 36, 1, false)),
+            (true, 1),
+            2,
+            0,
+        ),
     ),
     // a lock that was there, and one that comes first
     (&[(&[1], 7, &[Lock])], HANGS, (1, 0, 0, 2), LOCKED),
@@ -64,7 +76,13 @@ const CREATIONS: &[Beside] = &[
         &[(&[5], 7, EVERYTHING), (&[6], 7, EVERYTHING)],
         Ok((0, DEFAULTS)),
         (1, 0, 1, 6),
-        (Row::Published(0), Some((0, 36, 1, false)), (true, 1), 1, 0),
+        (
+            RowSummary::Published(0),
+            Some((0, 36, 1, false)),
+            (true, 1),
+            1,
+            0,
+        ),
     ),
 ];
 
@@ -106,13 +124,25 @@ fn closed<B: Body>(rt: &impl Abort, alloc: Global, pattern: Pattern, plan: Plan)
 const CLOSES: &[(Plan, Left, Left)] = &[
     (
         &[(&[1], 7, &[RemoveSegment, RemoveDescription, Lock, Leave])],
-        (Row::Published(0), Some((0, 36, 1, false)), (true, 1), 1, 0),
-        (Row::Absent, None, (false, 0), 1, 0),
+        (
+            RowSummary::Published(0),
+            Some((0, 36, 1, false)),
+            (true, 1),
+            1,
+            0,
+        ),
+        (RowSummary::Absent, None, (false, 0), 1, 0),
     ),
     // the peer keeps the service
     (
         &[(&[1], 7, &[Read, Join])],
-        (Row::Published(0), Some((0, 36, 2, false)), (true, 1), 1, 0),
+        (
+            RowSummary::Published(0),
+            Some((0, 36, 2, false)),
+            (true, 1),
+            1,
+            0,
+        ),
         PEERS,
     ),
 ];

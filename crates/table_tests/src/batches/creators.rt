@@ -64,14 +64,14 @@ fn published_by<B: Body>(rt: &impl Abort, alloc: Global, creator: u64) -> B::Sto
 }
 
 /// Whom an open tells of a service that a peer publishes with this creator.
-fn told<B: Body>(rt: &impl Abort, alloc: Global, by: u64) -> Option<Option<u64>> {
+fn creator_found<B: Body>(rt: &impl Abort, alloc: Global, by: u64) -> Option<Option<u64>> {
     let table = published_by::<B>(rt, alloc, by);
     creator::<B>(rt, alloc, table)
 }
 
 #[test]
 fn a_service_that_a_peer_creates_is_opened_with_the_creator_that_it_tells(rt: HostRuntime) {
-    let sorted = told::<Local>(&rt, rt.alloc(), 9);
-    let plain = told::<Plain>(&rt, rt.alloc(), 9);
+    let sorted = creator_found::<Local>(&rt, rt.alloc(), 9);
+    let plain = creator_found::<Plain>(&rt, rt.alloc(), 9);
     assert_same(&rt, (sorted, plain), (Some(Some(9)), Some(Some(9))));
 }

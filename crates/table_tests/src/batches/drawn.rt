@@ -1,9 +1,10 @@
-//! Batches that are drawn by chance, at either table and at a model of it in a few lines.
+//! Batches that are drawn by chance, at each table and at a model of it in a few lines.
 
 use crate::batches::support::*;
 use crate::patterns::{ALL, Offer, Pattern, service};
 use crate::support::draw;
 use iceoryx2_access::storage::{Existence, Storage};
+use iceoryx2_large_table::local::ManyLocal;
 use iceoryx2_table::local::Local;
 use iceoryx2_table::table::Step;
 use plain_table::body::Body;
@@ -26,7 +27,7 @@ enum Phase {
 /// What there is of the service, and the next number.
 #[derive(Clone, Copy)]
 struct Service {
-    row: Row,
+    row: RowSummary,
     segment: Segment,
     counter: u64,
 }
@@ -34,10 +35,10 @@ struct Service {
 /// What a peer that holds nothing makes of the service, and where it is then.
 fn outside(service: Service, phase: Phase, deed: Deed) -> (Service, Phase) {
     match (deed, service.row) {
-        (Deed::Read, Row::Published(number)) => (service, Phase::Read(number)),
-        (Deed::Lock, Row::Absent) => {
+        (Deed::Read, RowSummary::Published(number)) => (service, Phase::Read(number)),
+        (Deed::Lock, RowSummary::Absent) => {
             let locked = Service {
-                row: Row::Locked(service.counter),
+                row: RowSummary::Locked(service.counter),
                 segment: service.segment,
                 counter: service.counter.wrapping_add(1),
             };
@@ -57,7 +58,7 @@ fn with_segment(service: Service, segment: Segment) -> Service {
 }
 
 /// The service with this row.
-fn with_row(service: Service, row: Row) -> Service {
+fn with_row(service: Service, row: RowSummary) -> Service {
     Service {
         row,
         segment: service.segment,
@@ -83,7 +84,7 @@ fn reader(service: Service, number: u64, deed: Deed) -> (Service, Phase) {
 fn locker(service: Service, number: u64, deed: Deed) -> (Service, Phase) {
     match (deed, service.segment) {
         (Deed::RemoveSegment, _) => (with_segment(service, None), Phase::Locked(number)),
-        (Deed::RemoveDescription, _) => (with_row(service, Row::Absent), Phase::Idle),
+        (Deed::RemoveDescription, _) => (with_row(service, RowSummary::Absent), Phase::Idle),
         (Deed::Make(room), None) => {
             if room == 0 {
                 return (service, Phase::Locked(number));
@@ -107,12 +108,12 @@ fn nodes_of(offer: Offer) -> u64 {
 fn maker(service: Service, number: u64, deed: Deed) -> (Service, Phase) {
     match (deed, service.segment) {
         (Deed::RemoveSegment, _) => (with_segment(service, None), Phase::Locked(number)),
-        (Deed::RemoveDescription, _) => (with_row(service, Row::Absent), Phase::Idle),
+        (Deed::RemoveDescription, _) => (with_row(service, RowSummary::Absent), Phase::Idle),
         (Deed::Publish(offer), Some((_, room, _, _))) => {
             if nodes_of(offer) != room {
                 return (service, Phase::Made(number));
             }
-            let row = Row::Published(number);
+            let row = RowSummary::Published(number);
             (with_row(service, row), Phase::Joined(number, 1))
         }
         _ => (service, Phase::Made(number)),
@@ -141,7 +142,7 @@ fn member(service: Service, number: u64, times: u64, deed: Deed) -> (Service, Ph
 /// What one makes of it that was the last to leave.
 fn last_one(service: Service, phase: Phase, number: u64, deed: Deed) -> (Service, Phase) {
     match (deed, phase) {
-        (Deed::RemoveDescription, _) => (with_row(service, Row::Absent), Phase::Idle),
+        (Deed::RemoveDescription, _) => (with_row(service, RowSummary::Absent), Phase::Idle),
         (Deed::RemoveSegment, Phase::Leaving(_)) => {
             (with_segment(service, None), Phase::Cleared(number))
         }
@@ -243,9 +244,9 @@ fn ran<B: Body>(
 /// The same at the model.
 fn wanted(service: Service) -> (Existence, Left) {
     let existence = match service.row {
-        Row::Absent => Existence::No,
-        Row::Locked(_) => Existence::BeingSetUp,
-        Row::Published(_) => Existence::Yes,
+        RowSummary::Absent => Existence::No,
+        RowSummary::Locked(_) => Existence::BeingSetUp,
+        RowSummary::Published(_) => Existence::Yes,
     };
     let left = (service.row, service.segment, (false, 0), service.counter, 0);
     (existence, left)
@@ -255,7 +256,7 @@ fn wanted(service: Service) -> (Existence, Left) {
 fn empty() -> World {
     World {
         service: Service {
-            row: Row::Absent,
+            row: RowSummary::Absent,
             segment: None,
             counter: 0,
         },
@@ -271,8 +272,8 @@ type Seen = (bool, bool);
 /// What was seen once this is seen too.
 fn seen_also(seen: Seen, service: Service) -> Seen {
     match (service.row, service.segment) {
-        (Row::Published(_), Some((_, _, 2, _))) => (true, seen.1),
-        (Row::Published(_), Some((_, _, 0, true))) => (seen.0, true),
+        (RowSummary::Published(_), Some((_, _, 2, _))) => (true, seen.1),
+        (RowSummary::Published(_), Some((_, _, 0, true))) => (seen.0, true),
         _ => seen,
     }
 }
@@ -297,8 +298,9 @@ fn drawn_batches_do_what_the_model_does(rt: HostRuntime) {
     for pattern in ALL {
         let seen = [
             compared::<Local>(&rt, rt.alloc(), pattern),
+            compared::<ManyLocal>(&rt, rt.alloc(), pattern),
             compared::<Plain>(&rt, rt.alloc(), pattern),
         ];
-        assert_same(&rt, seen, [(true, true); 2]);
+        assert_same(&rt, seen, [(true, true); 3]);
     }
 }

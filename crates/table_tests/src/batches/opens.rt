@@ -38,7 +38,13 @@ const REFUSED: &[Beside] = &[
         )],
         MARKED,
         (1, 1, 0, 5),
-        (Row::Published(0), Some((0, 20, 0, true)), (false, 0), 1, 0),
+        (
+            RowSummary::Published(0),
+            Some((0, 20, 0, true)),
+            (false, 0),
+            1,
+            0,
+        ),
     ),
     (
         &[
@@ -47,7 +53,13 @@ const REFUSED: &[Beside] = &[
         ],
         FULL,
         (1, 1, 0, 5),
-        (Row::Published(0), Some((0, 2, 2, false)), (false, 0), 1, 0),
+        (
+            RowSummary::Published(0),
+            Some((0, 2, 2, false)),
+            (false, 0),
+            1,
+            0,
+        ),
     ),
 ];
 
@@ -57,7 +69,13 @@ fn what_peers_hold_is_not_opened(rt: HostRuntime) {
 }
 
 /// What is left where the other service is open, beside the peer.
-pub const OTHER: Left = (Row::Published(1), Some((1, 2, 2, false)), (true, 1), 3, 0);
+pub const OTHER: Left = (
+    RowSummary::Published(1),
+    Some((1, 2, 2, false)),
+    (true, 1),
+    3,
+    0,
+);
 
 /// Replacements before one access of an open.
 const REPLACEMENTS: &[(Plan, Counts)] = &[
@@ -84,19 +102,31 @@ const FIRST_STEPS: &[Beside] = &[
         &[(&[1], 7, PUBLISHED)],
         Ok((0, DEFAULTS)),
         (1, 1, 0, 4),
-        (Row::Published(0), Some((0, 36, 2, false)), (true, 1), 2, 0),
+        (
+            RowSummary::Published(0),
+            Some((0, 36, 2, false)),
+            (true, 1),
+            2,
+            0,
+        ),
     ),
     (
         &[(&[1], 7, PUBLISHED), (&[4], 7, &[Leave])],
         MARKED,
         (1, 1, 0, 5),
-        (Row::Published(0), Some((0, 36, 0, true)), (false, 0), 1, 0),
+        (
+            RowSummary::Published(0),
+            Some((0, 36, 0, true)),
+            (false, 0),
+            1,
+            0,
+        ),
     ),
     (
         &[(&[1], 7, PUBLISHED), (&[4], 7, &[Leave, RemoveSegment])],
         CORRUPTED,
         (1, 1, 0, 5),
-        (Row::Published(0), None, (false, 0), 1, 0),
+        (RowSummary::Published(0), None, (false, 0), 1, 0),
     ),
     (
         &[
@@ -105,7 +135,7 @@ const FIRST_STEPS: &[Beside] = &[
         ],
         CORRUPTED,
         (1, 1, 0, 5),
-        (Row::Absent, None, (false, 0), 1, 0),
+        (RowSummary::Absent, None, (false, 0), 1, 0),
     ),
     (
         &[
@@ -114,7 +144,7 @@ const FIRST_STEPS: &[Beside] = &[
         ],
         CORRUPTED,
         (1, 1, 0, 5),
-        (Row::Locked(1), None, (false, 0), 2, 0),
+        (RowSummary::Locked(1), None, (false, 0), 2, 0),
     ),
     (
         &[
@@ -127,7 +157,13 @@ const FIRST_STEPS: &[Beside] = &[
         ],
         HANGS,
         (2, 1, 0, 7),
-        (Row::Locked(1), Some((1, 2, 1, false)), (false, 0), 2, 0),
+        (
+            RowSummary::Locked(1),
+            Some((1, 2, 1, false)),
+            (false, 0),
+            2,
+            0,
+        ),
     ),
     (
         &[(&[1], 7, PUBLISHED), (&[4], 7, REPLACED)],
@@ -153,7 +189,13 @@ const SIX: &[Beside] = &[(
     ],
     CORRUPTED,
     (12, 6, 0, 42),
-    (Row::Published(6), Some((6, 2, 1, false)), (false, 0), 7, 0),
+    (
+        RowSummary::Published(6),
+        Some((6, 2, 1, false)),
+        (false, 0),
+        7,
+        0,
+    ),
 )];
 
 #[test]

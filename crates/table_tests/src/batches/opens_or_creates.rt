@@ -23,7 +23,13 @@ const CREATE_HANGS: Answer = Err((How::OpenOrCreate, By::Create, Word::HangsInCr
 pub const IN_FLUX: Answer = Err((How::OpenOrCreate, By::Rounds, Word::SystemInFlux));
 
 /// What is left where node 1 has opened what a peer has published.
-const BOTH: Left = (Row::Published(0), Some((0, 36, 2, false)), (true, 1), 2, 0);
+const BOTH: Left = (
+    RowSummary::Published(0),
+    Some((0, 36, 2, false)),
+    (true, 1),
+    2,
+    0,
+);
 
 /// A peer's lock and its service, and from which access on they are in the way.
 const IN_THE_WAY: &[Beside] = &[
@@ -102,14 +108,26 @@ const FOLLOWED: &[Beside] = &[
         ],
         Ok((1, DEFAULTS)),
         (4, 0, 1, 10),
-        (Row::Published(1), Some((1, 36, 1, false)), (true, 1), 2, 0),
+        (
+            RowSummary::Published(1),
+            Some((1, 36, 1, false)),
+            (true, 1),
+            2,
+            0,
+        ),
     ),
     // what is marked stays, and each of six rounds finds it so
     (
         &[(&[1], 7, PUBLISHED), (&[6], 7, &[Leave])],
         IN_FLUX,
         (12, 6, 0, 42),
-        (Row::Published(0), Some((0, 36, 0, true)), (false, 0), 1, 0),
+        (
+            RowSummary::Published(0),
+            Some((0, 36, 0, true)),
+            (false, 0),
+            1,
+            0,
+        ),
     ),
     // each of six rounds finds no segment, and each next one a new service
     (
@@ -120,7 +138,13 @@ const FOLLOWED: &[Beside] = &[
         ],
         IN_FLUX,
         (12, 6, 0, 42),
-        (Row::Published(6), Some((6, 2, 1, false)), (false, 0), 7, 0),
+        (
+            RowSummary::Published(6),
+            Some((6, 2, 1, false)),
+            (false, 0),
+            7,
+            0,
+        ),
     ),
     // six replacements end the open of the first round after 44 accesses, 13 looks and 6 openings, and the
     // second round opens the last service by six accesses, two looks and an opening
@@ -128,7 +152,13 @@ const FOLLOWED: &[Beside] = &[
         SIX_IN_ONE_ROUND,
         Ok((6, FOR_TWO)),
         (15, 7, 0, 50),
-        (Row::Published(6), Some((6, 2, 2, false)), (true, 1), 8, 0),
+        (
+            RowSummary::Published(6),
+            Some((6, 2, 2, false)),
+            (true, 1),
+            8,
+            0,
+        ),
     ),
 ];
 
@@ -145,7 +175,7 @@ const ALWAYS_FIRST: &[Beside] = &[(
     ],
     IN_FLUX,
     (12, 0, 0, 36),
-    (Row::Absent, None, (false, 0), 6, 0),
+    (RowSummary::Absent, None, (false, 0), 6, 0),
 )];
 
 #[test]

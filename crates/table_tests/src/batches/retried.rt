@@ -4,7 +4,7 @@
 use self::Deed::*;
 use crate::batches::opens_or_creates::{CORRUPTED, HANGS, IN_FLUX};
 use crate::batches::rows::{Answer, Beside, assert_row, assert_rows};
-use crate::batches::support::{Counts, Deed, Left, Plan, Row};
+use crate::batches::support::{Counts, Deed, Left, Plan, RowSummary};
 use crate::calls::Call;
 use crate::patterns::{ALL, Offer};
 use iceoryx2_commands::command::How;
@@ -49,19 +49,43 @@ const SECOND: Answer = Ok((1, FOR_TWENTY));
 const CREATE_FAILS: Answer = Err((How::OpenOrCreate, By::Create, Word::InternalFailure));
 
 /// What is left where nothing was locked, and where one number is spent.
-const NEW: Left = (Row::Absent, None, (false, 0), 0, 0);
+const NEW: Left = (RowSummary::Absent, None, (false, 0), 0, 0);
 
-const EMPTY: Left = (Row::Absent, None, (false, 0), 1, 0);
+const EMPTY: Left = (RowSummary::Absent, None, (false, 0), 1, 0);
 
 /// What is left where node 1 alone has the first service, and the second.
-const FIRST_OF_ONE: Left = (Row::Published(0), Some((0, 20, 1, false)), (true, 1), 1, 0);
+const FIRST_OF_ONE: Left = (
+    RowSummary::Published(0),
+    Some((0, 20, 1, false)),
+    (true, 1),
+    1,
+    0,
+);
 
-const SECOND_OF_ONE: Left = (Row::Published(1), Some((1, 20, 1, false)), (true, 1), 2, 0);
+const SECOND_OF_ONE: Left = (
+    RowSummary::Published(1),
+    Some((1, 20, 1, false)),
+    (true, 1),
+    2,
+    0,
+);
 
 /// What is left where node 1 has it beside the peer.
-const FIRST_OF_BOTH: Left = (Row::Published(0), Some((0, 20, 2, false)), (true, 1), 2, 0);
+const FIRST_OF_BOTH: Left = (
+    RowSummary::Published(0),
+    Some((0, 20, 2, false)),
+    (true, 1),
+    2,
+    0,
+);
 
-const SECOND_OF_BOTH: Left = (Row::Published(1), Some((1, 20, 2, false)), (true, 1), 3, 0);
+const SECOND_OF_BOTH: Left = (
+    RowSummary::Published(1),
+    Some((1, 20, 2, false)),
+    (true, 1),
+    3,
+    0,
+);
 
 /// Creates of which accesses are refused: a look, and then a look, a count, a tag, a lock, a making and a
 /// publishing.
@@ -82,7 +106,7 @@ const CREATES: &[Faulted] = &[
         &[],
         HANGS,
         (3, 0, 1, 12),
-        (Row::Locked(0), None, (false, 0), 1, 0),
+        (RowSummary::Locked(0), None, (false, 0), 1, 0),
     ),
 ];
 
@@ -138,14 +162,20 @@ const PEERS: &[Beside] = &[
         &[(&[1], 7, &[Lock])],
         HANGS,
         (1, 0, 0, 2),
-        (Row::Locked(0), None, (false, 0), 1, 0),
+        (RowSummary::Locked(0), None, (false, 0), 1, 0),
     ),
     // what is marked stays, and each of six rounds finds it so
     (
         &[(&[1], 7, LEFT)],
         IN_FLUX,
         (12, 6, 0, 42),
-        (Row::Published(0), Some((0, 20, 0, true)), (false, 0), 1, 0),
+        (
+            RowSummary::Published(0),
+            Some((0, 20, 0, true)),
+            (false, 0),
+            1,
+            0,
+        ),
     ),
     // what is gone when it is opened is created in the next round
     (
@@ -189,7 +219,7 @@ const ALWAYS: &[Beside] = &[(
     IN_FLUX,
     (78, 36, 0, 264),
     (
-        Row::Published(36),
+        RowSummary::Published(36),
         Some((36, 20, 1, false)),
         (false, 0),
         37,

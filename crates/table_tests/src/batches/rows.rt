@@ -1,20 +1,21 @@
-//! Rows of calls beside peers. Each is run over both bodies of a table, and by each pattern.
+//! Rows of calls beside peers. Each is run over each body of a table, and by each pattern.
 
 use crate::batches::support::*;
 use crate::calls::{Answered, Call, answer, given};
 use crate::patterns::{ALL, Offer, Pattern, settings_of};
 use iceoryx2_commands::command::How;
-use iceoryx2_script::script::{Faulty, FaultyService};
+use iceoryx2_large_table::local::ManyLocal;
 use iceoryx2_table::local::Local;
-use iceoryx2_world::listing::Entry;
+use iceoryx2_testing::script::{Faulty, FaultyService};
+use iceoryx2_world::listing::ListedService;
 use plain_table::body::Body;
 use plain_table::plain::Plain;
 use std::alloc::Global;
 use std::process::Abort;
-use test_support::refusals::Said;
+use test_support::refusals::Reason;
 
 /// What a call is answered: the service's number and what was offered of it, or what a refusal says.
-pub type Answer = Result<(u64, Offer), Said>;
+pub type Answer = Result<(u64, Offer), Reason>;
 
 /// What is planned, what a call of node 1 answers, the counts, and what is left.
 pub type Beside = (Plan, Answer, Counts, Left);
@@ -29,7 +30,7 @@ fn seen<B: Body>(
     alloc: Global,
     call: Call,
     (refused, plan): (&[u64], Plan),
-) -> (Seen, Vec<Entry>) {
+) -> (Seen, Vec<ListedService>) {
     let Ok(refused) = refused.to_vec(alloc) else {
         panic!(rt; "no memory");
     };
@@ -48,7 +49,7 @@ fn seen<B: Body>(
 fn answer_in(pattern: Pattern, answer: Answer) -> Answered {
     match answer {
         Ok((number, offer)) => Ok((number, settings_of(pattern, offer))),
-        Err(said) => Err((pattern, said)),
+        Err(reason) => Err((pattern, reason)),
     }
 }
 
@@ -58,7 +59,7 @@ fn waiting(refused: &[u64], plan: Plan, (_, _, _, accesses): Counts) -> usize {
     planned_batches(plan).saturating_sub(taken)
 }
 
-/// Makes a call as it is planned over both bodies, where these accesses are refused, and finds what is
+/// Makes a call as it is planned over each body, where these accesses are refused, and finds what is
 /// wanted of this row and the same listing.
 pub fn assert_row(
     rt: &impl Abort,
@@ -76,6 +77,9 @@ pub fn assert_row(
     );
     let (in_vectors, listing) = seen::<Local>(rt, alloc, call, (refused, plan));
     assert_same(rt, (call, row, in_vectors), (call, row, wanted));
+    let (in_trees, tree_listing) = seen::<ManyLocal>(rt, alloc, call, (refused, plan));
+    assert_same(rt, (call, row, in_trees), (call, row, wanted));
+    assert_same(rt, &tree_listing, &listing);
     let (in_plain, plain_listing) = seen::<Plain>(rt, alloc, call, (refused, plan));
     assert_same(rt, (call, row, in_plain), (call, row, wanted));
     assert_same(rt, plain_listing, listing);

@@ -7,7 +7,7 @@ use crate::support::command;
 use iceoryx2_commands::command::{Command, How, Reply};
 use iceoryx2_description::description::ServiceHash;
 use iceoryx2_table::local::Local;
-use iceoryx2_world::listing::Entry;
+use iceoryx2_world::listing::ListedService;
 use plain_table::plain::Plain;
 use std::alloc::Global;
 use std::process::Abort;
@@ -21,7 +21,7 @@ fn finished<B: Commanded>(rt: &impl Abort, pattern: Pattern, commands: B::Comman
 }
 
 /// The row and the segment of the only service of a listing.
-fn listed<B: Commanded>(rt: &impl Abort, commands: &mut B::Commands) -> (Row, Segment) {
+fn listed<B: Commanded>(rt: &impl Abort, commands: &mut B::Commands) -> (RowSummary, Segment) {
     match B::apply(rt, commands, Command::List) {
         Reply::Listing(entries) => only_one(rt, entries.as_slice()),
         _ => panic!(rt; "no listing"),
@@ -47,7 +47,7 @@ fn opened_and_closed<B: Commanded>(
     rt: &impl Abort,
     alloc: Global,
     pattern: Pattern,
-) -> ([Reply; 2], (Row, Segment), Left) {
+) -> ([Reply; 2], (RowSummary, Segment), Left) {
     let mut commands = started::<B>(rt, alloc, pattern, REPLACEMENT);
     let open = command(rt, alloc, pattern, (How::Open, 1, 0), "xample");
     let opened = B::apply(rt, &mut commands, open);
@@ -63,7 +63,7 @@ fn assert_replacement<B: Commanded>(rt: &impl Abort, alloc: Global, pattern: Pat
         Reply::Opened { slot: 0, number: 1 },
         Reply::Closed { slot: 0 },
     ];
-    let (row, segment) = (Row::Published(1), Some((1, 2, 1, false)));
+    let (row, segment) = (RowSummary::Published(1), Some((1, 2, 1, false)));
     let wanted = (replies, (row, segment), (row, segment, (false, 0), 3, 0));
     assert_same(rt, opened_and_closed::<B>(rt, alloc, pattern), wanted);
 }
@@ -88,12 +88,12 @@ const REPEATED: Plan = &[
 
 /// What there is for a slot: the row and the segment of its service, and whether the node has its tag and
 /// how many tickets.
-type Slot = (Row, Segment, (bool, u64));
+type Slot = (RowSummary, Segment, (bool, u64));
 
 /// That of a node and a service.
 fn slot<B: Commanded>(
     table: &B::Storage,
-    entries: &[Entry],
+    entries: &[ListedService],
     node: u64,
     hash: &ServiceHash,
 ) -> Slot {
@@ -161,13 +161,13 @@ fn push_closes<B: Commanded>(
 }
 
 /// The row of the service, its segment with one participant and with two, and what there is of none.
-const ROW: Row = Row::Published(1);
+const ROW: RowSummary = RowSummary::Published(1);
 
 const OF_ONE: Segment = Some((1, 2, 1, false));
 
 const OF_TWO: Segment = Some((1, 2, 2, false));
 
-const NONE: Slot = (Row::Absent, None, (false, 0));
+const NONE: Slot = (RowSummary::Absent, None, (false, 0));
 
 /// The other service, which node 3 has for as many nodes as are the default.
 fn of_other(pattern: Pattern) -> Slot {
@@ -175,7 +175,11 @@ fn of_other(pattern: Pattern) -> Slot {
         Pattern::Event => 36,
         Pattern::PublishSubscribe | Pattern::RequestResponse => 20,
     };
-    (Row::Published(3), Some((3, nodes, 1, false)), (true, 1))
+    (
+        RowSummary::Published(3),
+        Some((3, nodes, 1, false)),
+        (true, 1),
+    )
 }
 
 /// The four slots where so many are in the segment of the service, where nodes 1 and 2 hold this of it, and

@@ -3,14 +3,14 @@
 use crate::patterns::{NAME, Offer, Pattern, described, service, settings_of};
 pub use crate::support::{assert_same, entries, name, push};
 use iceoryx2_description::description::ServiceHash;
-use iceoryx2_script::script::Faulty;
 use iceoryx2_table::table::{Act, Step};
-use iceoryx2_world::listing::Entry;
+use iceoryx2_testing::script::Faulty;
+use iceoryx2_world::listing::ListedService;
 use plain_table::body::Body;
 use std::alloc::Global;
 use std::process::Abort;
 use test_support::listing;
-pub use test_support::listing::{Row, Segment, row_and_segment_of};
+pub use test_support::listing::{RowSummary, Segment, row_and_segment_of};
 
 /// The default settings, for 36 nodes.
 pub const DEFAULTS: Offer = Offer::DefaultsFor(36);
@@ -142,7 +142,7 @@ pub const REPLACED: &[Deed] = &[
 ];
 
 /// The row and the segment of the only service that is listed, or of none.
-pub fn only_one(rt: &impl Abort, entries: &[Entry]) -> (Row, Segment) {
+pub fn only_one(rt: &impl Abort, entries: &[ListedService]) -> (RowSummary, Segment) {
     match listing::only_one(entries) {
         Some(found) => found,
         None => panic!(rt; "more than one service"),
@@ -156,10 +156,10 @@ pub fn held<B: Body>(table: &B::Storage, node: u64, hash: &ServiceHash) -> (bool
 
 /// The row and the segment of the service, whether node 1 has its tag and how many tickets, the table's
 /// counter, and how many steps found no memory.
-pub type Left = (Row, Segment, (bool, u64), u64, u64);
+pub type Left = (RowSummary, Segment, (bool, u64), u64, u64);
 
 /// What is left where a peer holds the lock.
-pub const LOCKED: Left = (Row::Locked(0), None, (false, 0), 1, 0);
+pub const LOCKED: Left = (RowSummary::Locked(0), None, (false, 0), 1, 0);
 
 /// What is left of a pattern's service in a table with no other.
 pub fn left<B: Body>(rt: &impl Abort, pattern: Pattern, table: &B::Storage) -> Left {
