@@ -4,8 +4,8 @@ set -eu
 top=$(cd "$(dirname "${BASH_SOURCE[0]}")/.." && pwd)
 scratch=${BENCHMARK_FOLDER:-/tmp/negotiation-benchmark}
 sources=/usr/share/cargo/registry
-libraries="iceoryx2_session iceoryx2_commands iceoryx2_builder iceoryx2_table iceoryx2_world iceoryx2_byte_form"
-libraries="$libraries iceoryx2_description iceoryx2_attribute"
+libraries="iceoryx2_session iceoryx2_commands iceoryx2_builder iceoryx2_large_table iceoryx2_table iceoryx2_world"
+libraries="$libraries iceoryx2_access iceoryx2_byte_form iceoryx2_description iceoryx2_attribute"
 driver=$scratch/driver/target/release/driver
 
 # Tells how far a script is, and how many seconds it took up to here.
@@ -22,17 +22,14 @@ need() {
     fi
 }
 
-# A repository of copies, with the static library beside the crates. A first run proves them all; what
-# rt kept of earlier checks, here or in the copied repository, is used again.
+# A repository of copies, with the static library beside the crates.
 copy_crates() {
+    local crate name part
     mkdir -p "$scratch/crates/measured/src"
     [ -e "$scratch/.git" ] || git init -q "$scratch"
     for crate in "$top"/crates/*/; do
         name=$(basename "$crate")
         mkdir -p "$scratch/crates/$name"
-        if [ -e "$crate/out" ] && [ ! -e "$scratch/crates/$name/out" ]; then
-            cp -a "$crate/out" "$scratch/crates/$name/"
-        fi
         for part in src specs proofs; do
             rm -rf "$scratch/crates/$name/$part"
             [ ! -e "$crate/$part" ] || cp -a "$crate/$part" "$scratch/crates/$name/"
@@ -41,6 +38,35 @@ copy_crates() {
     cp "$top/crates.txt" "$scratch/crates.txt"
     copy_crate "measured staticlib" "$scratch" "negotiate_serve negotiate_lines $libraries libc"
     copy_crate shared_lines "$scratch" "negotiate_serve negotiate_lines $libraries iceoryx2_file_log iceoryx2_journal"
+}
+
+# Copies what rt kept of earlier checks of the crates on which this one stands, unless what is kept here is later.
+copy_kept() {
+    local name from to
+    for name in $(crates_below "$1"); do
+        from=$top/crates/$name/out
+        to=$scratch/crates/$name/out
+        if [ -e "$from" ] && { [ ! -e "$to" ] || [ "$from/rlib/stamp" -nt "$to/rlib/stamp" ]; }; then
+            rm -rf "$to"
+            cp -a "$from" "$to"
+        fi
+    done
+}
+
+# The repository's crates on which one stands.
+crates_below() {
+    python3 - "$scratch/crates.txt" "$1" <<'LIST'
+import sys
+
+lines = [line.split(":") for line in open(sys.argv[1]) if ":" in line and not line.startswith("#")]
+uses = {names.split()[0]: libraries.split() for names, libraries in lines}
+found, left = set(), [sys.argv[2]]
+while left:
+    below = [name for name in uses[left.pop()] if name in uses and name not in found]
+    found.update(below)
+    left += below
+print(*sorted(found))
+LIST
 }
 
 # Puts a crate beside those of a repository: a folder of benchmarks/ whose files end in `.rattle`.
@@ -106,6 +132,7 @@ CONFIG
 build() {
     need "$sources/sha1-0.10.*" librust-sha1-dev
     copy_crates
+    copy_kept measured
     prove_crate measured "$scratch" lib libmeasured.a
     build_program "$top/benchmarks/driver" "$scratch/driver" measured "$scratch"
 }
@@ -120,19 +147,41 @@ describe_run() {
     echo "load: $(cut -d' ' -f1-3 /proc/loadavg), of $(nproc) processors"
 }
 
+# The programs that are measured, those whose counts take longest first, and the numbers of standing services.
+programs=(proved vectors large map records)
+counted_beside=(10 100 1000 10000 100000)
+
 # Counts the instructions of each section of a program's run, beside so many standing services. Without
 # `rep movsb`, of which valgrind counts each byte. Further options for callgrind stand in `callgrind_options`.
 callgrind_options=()
-counted_beside=(1000 10000)
 
 count_sections() {
-    local program=$1 counts=$scratch/counts-$1
-    shift
+    local program=$1 counts=$2/counts-$1
+    shift 2
     tell "counting instructions: $program${1:+, beside $*}"
     rm -rf "$counts"
     mkdir -p "$counts"
     GLIBC_TUNABLES=glibc.cpu.x86_rep_movsb_threshold=2000000000 \
         valgrind --tool=callgrind --compress-strings=no "${callgrind_options[@]}" --dump-before='clock_gettime*' \
         --callgrind-out-file="$counts/out" \
-        "$driver" sections "$program" "$@" >"$counts/sections" 2>"$counts/log"
+        "$driver" sections "$program" "$@" >"$counts/sections" 2>"$counts/log" || {
+        tail -n 20 "$counts/log" >&2
+        return 1
+    }
+    tell "counted: $program"
+}
+
+# Counts those of some programs side by side, which changes no count.
+count_programs() {
+    local folder=$1 numbers=$2 running=() one
+    shift 2
+    need valgrind valgrind
+    for one in "$@"; do
+        # shellcheck disable=SC2086
+        count_sections "$one" "$folder" $numbers &
+        running+=($!)
+    done
+    for one in "${running[@]}"; do
+        wait "$one"
+    done
 }

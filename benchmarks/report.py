@@ -8,10 +8,12 @@ import subprocess
 import sys
 from pathlib import Path
 
-PROGRAMS = ["proved", "map", "vectors", "records"]
-NAMES = {"proved": "proved", "map": "ordered maps", "vectors": "sorted vectors", "records": "records"}
-OTHERS = PROGRAMS[1:]
-TO_OTHERS = [f"to {other}" for other in OTHERS]
+# The proved layer over a `Table` and over a `LargeTable`, and the plain programs.
+PROGRAMS = ["proved", "large", "map", "vectors", "records"]
+NAMES = {"proved": "table", "large": "large table", "map": "map", "vectors": "vectors", "records": "records"}
+# As multiples of which programs those of the proved layer are printed.
+COMPARED = [("proved", "map"), ("proved", "vectors"), ("proved", "records"), ("large", "map"), ("large", "records")]
+TO_OTHERS = ["to map", "to vectors", "to records", "large to map", "to records"]
 
 # The rows of operations and lines that are printed, in order.
 PAGE = [
@@ -26,9 +28,18 @@ FORMS = [f"{what} {pattern}{more}" for pattern in ("event", "pubsub", "rr") for 
          for more in ("", " with 4 attributes")]
 BESIDE = ["creates by node 1", "open and close by node 2", "open and close by node 0",
           "create and close beside", "list"]
+# What the parts beside standing services are in the picture and on the page.
+TITLES = {
+    "creates by node 1": "a create, from the first to the last of them",
+    "open and close by node 2": "an open with its close, by a later node",
+    "open and close by node 0": "an open with its close, by an earlier node",
+    "create and close beside": "a create with its close, beside all",
+}
 
-# By how much a part may differ from what is stored, before guard names it.
+# By how much a part may differ from what is stored, before guard names it: as a share, and in instructions of all its
+# operations, of which an allocation more or less takes some.
 ALLOWED = 0.03
+ALLOWED_IN_ALL = 2000
 
 
 def table(head, rows):
@@ -62,44 +73,49 @@ def write_results(path, times, units):
         out = csv.writer(file, lineterminator="\n")
         out.writerow(["case", "standing", "unit", "program", "starts", "least", "median", "greatest"])
         for (case, standing), programs in times.items():
-            for program in PROGRAMS:
-                values = programs[program]
+            for program, values in sorted(programs.items(), key=lambda item: PROGRAMS.index(item[0])):
                 numbers = min(values), statistics.median(values), max(values)
                 out.writerow([case, standing, units[case, standing], program, len(values)]
                              + [f"{number:.3f}" for number in numbers])
 
 
-def ratios(programs, other):
-    """The proved program's times as multiples of another's, start by start."""
-    return [one / two for one, two in zip(programs["proved"], programs[other])]
+def ratio_of_times(programs, one, other):
+    """A program's times as multiples of another's: the median over the starts."""
+    return statistics.median(first / second for first, second in zip(programs[one], programs[other]))
 
 
 def multiple(number):
-    """Two digits, and behind the point none where there are three before it."""
+    """Two digits after the point, and none where there are three before it."""
     return f"{number:.2f}" if number < 100 else f"{number:.0f}"
 
 
 def time_row(label, programs, scale, digits):
-    """The medians, their greatest spread, the medians of the ratios, and least and greatest of that to vectors."""
+    """The medians, their greatest spread, and the medians of the ratios."""
     medians = [statistics.median(programs[program]) for program in PROGRAMS]
     worst = max(spread(programs[program]) for program in PROGRAMS)
-    to_vectors = ratios(programs, "vectors")
     return (label + [f"{scale(median):.{digits}f}" for median in medians] + [f"{100 * worst:.0f} %"]
-            + [multiple(statistics.median(ratios(programs, other))) for other in OTHERS]
-            + [f"{min(to_vectors):.2f} to {max(to_vectors):.2f}"])
+            + [multiple(ratio_of_times(programs, *pair)) for pair in COMPARED])
 
 
-def print_times(times, peaks):
-    head = [NAMES[program] for program in PROGRAMS] + ["spread"] + TO_OTHERS + ["to vectors in the starts"]
+def print_times(times):
+    head = [NAMES[program] for program in PROGRAMS] + ["spread"] + TO_OTHERS
     print("Microseconds of processor time for one, medians of the starts:\n")
-    table(["part"] + head, [time_row([case], times[case, 0], lambda one: one / 1000, 2) for case in PAGE])
+    table(["part"] + head,
+          [time_row([case], times[case, 0], lambda one: one / 1000, 2) for case in PAGE if (case, 0) in times])
     print("Megabytes of forms a second:\n")
-    table(["part"] + head, [time_row([case], times[case, 0], lambda one: 1000 / one, 0) for case in FORMS])
+    table(["part"] + head,
+          [time_row([case], times[case, 0], lambda one: 1000 / one, 0) for case in FORMS if (case, 0) in times])
     print("Microseconds for one, beside standing services:\n")
     numbers = sorted({standing for case, standing in times if case in BESIDE})
     table(["part", "standing"] + head,
           [time_row([case, f"{standing:,}"], times[case, standing], lambda one: one / 1000, 2)
            for standing in numbers for case in BESIDE])
+
+
+def print_peaks(path):
+    peaks = {}
+    for program, number, peak, _ in csv.reader(path.open()):
+        peaks[program, int(number)] = int(peak)
     print("Bytes of memory at the peak for each standing service:\n")
     table(["standing"] + [NAMES[program] for program in PROGRAMS],
           [[f"{number:,}"] + [f"{peaks[program, number] / number:,.0f}" for program in PROGRAMS]
@@ -107,20 +123,13 @@ def print_times(times, peaks):
 
 
 # The picture: four panels, each with a curve for each program.
-COLOURS = {"proved": "#0b5394", "map": "#b45309", "vectors": "#2f7d32", "records": "#8e24aa"}
-DASHES = {"proved": "", "map": "7 4", "vectors": "2 3", "records": "10 3 2 3"}
+COLOURS = {"proved": "#0b5394", "large": "#c2185b", "map": "#b45309", "vectors": "#2f7d32", "records": "#8e24aa"}
+DASHES = {"proved": "", "large": "", "map": "7 4", "vectors": "2 3", "records": "10 3 2 3"}
 WIDTH, HEIGHT, PANEL_WIDTH, PANEL_HEIGHT = 960, 700, 350, 215
 
 
-def time_label(nanoseconds):
-    for limit, unit in ((1e3, "ns"), (1e6, "µs"), (1e9, "ms")):
-        if nanoseconds < limit:
-            return f"{nanoseconds * 1e3 / limit:g} {unit}"
-    return f"{nanoseconds / 1e9:g} s"
-
-
 class Panel:
-    """One part's times over the number of standing services, both in logarithms."""
+    """One part's instructions over the number of standing services, both in logarithms."""
 
     def __init__(self, left, top, numbers, values):
         self.left, self.top = left, top
@@ -139,7 +148,7 @@ class Panel:
         for power in range(self.low_y, self.high_y + 1):
             y = self.y(10 ** power)
             yield f'<line class="grid" x1="{self.left}" y1="{y:.1f}" x2="{self.left + PANEL_WIDTH}" y2="{y:.1f}"/>'
-            yield f'<text class="y" x="{self.left - 8}" y="{y + 4:.1f}">{time_label(10.0 ** power)}</text>'
+            yield f'<text class="y" x="{self.left - 8}" y="{y + 4:.1f}">{10 ** power:,}</text>'
         for number in numbers:
             x = self.x(number)
             yield f'<line class="grid" x1="{x:.1f}" y1="{self.top}" x2="{x:.1f}" y2="{self.top + PANEL_HEIGHT}"/>'
@@ -148,32 +157,24 @@ class Panel:
 
     def curve(self, program, points):
         colour, dash = COLOURS[program], DASHES[program]
-        path = " ".join(f"{self.x(number):.1f},{self.y(statistics.median(values)):.1f}" for number, values in points)
+        path = " ".join(f"{self.x(number):.1f},{self.y(value):.1f}" for number, value in points)
         yield (f'<polyline points="{path}" fill="none" stroke="{colour}" stroke-width="2" '
                f'stroke-dasharray="{dash}"/>')
-        for number, values in points:
-            x = self.x(number)
-            yield (f'<line x1="{x:.1f}" y1="{self.y(min(values)):.1f}" x2="{x:.1f}" y2="{self.y(max(values)):.1f}" '
-                   f'stroke="{colour}" stroke-width="1"/>')
-            yield f'<circle cx="{x:.1f}" cy="{self.y(statistics.median(values)):.1f}" r="3" fill="{colour}"/>'
+        for number, value in points:
+            yield f'<circle cx="{self.x(number):.1f}" cy="{self.y(value):.1f}" r="3" fill="{colour}"/>'
 
 
-def write_picture(path, times):
-    parts = {
-        "creates by node 1": "A create, from the first to the last of them",
-        "open and close by node 2": "An open and its close, by a node after the creator",
-        "open and close by node 0": "An open and its close, by a node before the creator",
-        "create and close beside": "A create and its close, beside all",
-    }
-    numbers = sorted({standing for case, standing in times if case in parts})
+def write_picture(path, counted):
+    numbers = sorted({standing for case, standing in counted if case in TITLES})
+    if not numbers:
+        return
     lines = [
         f'<svg xmlns="http://www.w3.org/2000/svg" viewBox="0 0 {WIDTH} {HEIGHT}" width="{WIDTH}" height="{HEIGHT}" '
         'font-family="sans-serif" font-size="12">',
         "<style>.grid { stroke: #d4d4d4 } .title { font-weight: bold; font-size: 13px } "
         ".x { text-anchor: middle; fill: #444 } .y { text-anchor: end; fill: #444 }</style>",
         f'<rect width="{WIDTH}" height="{HEIGHT}" fill="white"/>',
-        '<text x="80" y="30" font-size="15">Processor time of one, by the number of standing services '
-        "(medians; least to greatest of the starts)</text>",
+        '<text x="80" y="30" font-size="15">Instructions for one, by the number of standing services</text>',
     ]
     for index, program in enumerate(PROGRAMS):
         x = 80 + 160 * index
@@ -181,27 +182,24 @@ def write_picture(path, times):
                      f'stroke-dasharray="{DASHES[program]}"/>')
         lines.append(f'<circle cx="{x + 17}" cy="52" r="3" fill="{COLOURS[program]}"/>')
         lines.append(f'<text x="{x + 42}" y="56">{NAMES[program]}</text>')
-    values = [value for case in parts for number in numbers for some in times[case, number].values() for value in some]
-    for index, (case, title) in enumerate(parts.items()):
+    values = [value for case in TITLES for number in numbers for value in counted[case, number].values()]
+    for index, (case, title) in enumerate(TITLES.items()):
         left, top = 80 + (index % 2) * 470, 105 + (index // 2) * 300
         panel = Panel(left, top, numbers, values)
-        lines.extend(panel.frame(title, numbers))
+        lines.extend(panel.frame(title.capitalize(), numbers))
         for program in PROGRAMS:
-            lines.extend(panel.curve(program, [(number, times[case, number][program]) for number in numbers]))
+            points = [(number, counted[case, number][program]) for number in numbers if program in counted[case, number]]
+            lines.extend(panel.curve(program, points))
         lines.append(f'<text class="x" x="{left + PANEL_WIDTH / 2}" y="{top + PANEL_HEIGHT + 38}">'
                      "standing services</text>")
     lines.append("</svg>")
     path.write_text("\n".join(lines) + "\n")
 
 
-def report_times(folder, results, picture):
+def report_times(folder, results):
     times, units = read_times(folder)
-    peaks = {}
-    for program, number, peak, _ in csv.reader((folder / "peaks.csv").open()):
-        peaks[program, int(number)] = int(peak)
     write_results(results, times, units)
-    write_picture(picture, times)
-    print_times(times, peaks)
+    print_times(times)
 
 
 # Instructions, by the functions in which they were spent.
@@ -220,75 +218,155 @@ def group_of(function):
     return "the rest"
 
 
-def costs_of(path):
-    """What a section cost: in all, and by groups of functions."""
-    costs, function, is_call = {}, "", False
+# By this the memory allocator tidies up now and then, in whatever part that happens. Neither it nor what it calls counts.
+TIDYING = "malloc_consolidate"
+
+
+def costs_of(path, of_instructions=False):
+    """Each cost of a section, with its function and, where single instructions were counted, its address."""
+    line_of = r"0x([0-9a-f]+) \d+ (\d+)\s*$" if of_instructions else r"()[+\-*]?\d* (\d+)\s*$"
+    function, is_call = "", False
     for line in path.open():
         if line.startswith("fn="):
             function = line[3:].strip()
         elif line.startswith("calls="):
             is_call = True
         else:
-            number = re.match(r"[+\-*]?\d* (\d+)\s*$", line)
-            if number and is_call:
+            number = re.match(line_of, line)
+            if number:
+                cost = int(number.group(2))
+                if not is_call and function != TIDYING:
+                    yield function, cost, number.group(1)
+                # What it calls stands by itself too, so it is taken out again.
+                elif is_call and function == TIDYING:
+                    yield function, -cost, ""
                 is_call = False
-            elif number:
-                group = group_of(function)
-                costs[group] = costs.get(group, 0) + int(number.group(1))
-    total = re.search(r"^totals: (\d+)", path.read_text(), re.M)
-    return int(total.group(1)), costs
+
+
+def sections_of(folder, program):
+    """Of each section of a program's run its part, if it is one, and the file of what it cost."""
+    counts = folder / f"counts-{program}"
+    lines = (counts / "sections").read_text().splitlines()
+    sections = [line for line in lines if not line.startswith("answers,")]
+    for index, section in enumerate(sections, 1):
+        if section != "-":
+            case, standing, unit, count = section.rsplit(",", 3)
+            yield (case, int(standing)), unit, float(count), counts / f"out.{index}"
 
 
 def read_instructions(folder, program):
-    """Of each part the instructions of one, and those by groups."""
-    counts = folder / f"counts-{program}"
+    """Of each part the instructions of one, those by groups, the unit, and how many there were."""
     sums = {}
-    for index, section in enumerate((counts / "sections").read_text().splitlines(), 1):
-        if section != "-":
-            case, standing, unit, count = section.rsplit(",", 3)
-            total, costs = costs_of(counts / f"out.{index}")
-            entry = sums.setdefault((case, int(standing)), [0, 0, {}, unit])
-            entry[0] += total
-            entry[1] += float(count)
-            for group, cost in costs.items():
-                entry[2][group] = entry[2].get(group, 0) + cost
-    return {part: (total / count, {group: cost / count for group, cost in costs.items()}, unit)
+    for part, unit, count, path in sections_of(folder, program):
+        entry = sums.setdefault(part, [0, 0, {}, unit])
+        entry[1] += count
+        for function, cost, _ in costs_of(path):
+            group = group_of(function)
+            entry[0] += cost
+            entry[2][group] = entry[2].get(group, 0) + cost
+    return {part: (total / count, {group: cost / count for group, cost in costs.items()}, unit, count)
             for part, (total, count, costs, unit) in sums.items()}
 
 
-def report_instructions(folder, stored):
+def other_answers(folder):
+    """The cases in which a program answered otherwise than the first one."""
+    answers = {}
+    for program in PROGRAMS:
+        for line in (folder / f"counts-{program}" / "sections").read_text().splitlines():
+            if line.startswith("answers,"):
+                case, answer = line.rsplit(",", 1)
+                answers.setdefault(case, {})[program] = answer
+    return [f"{case}: {programs}" for case, programs in answers.items() if len(set(programs.values())) > 1]
+
+
+def compared(counts):
+    """Of one part, the multiples that are printed."""
+    return [multiple(counts[one] / counts[other]) if one in counts and other in counts else ""
+            for one, other in COMPARED]
+
+
+def report_instructions(folder, stored, picture):
+    differing = other_answers(folder)
+    if differing:
+        print("the programs gave different answers:", *differing, sep="\n", file=sys.stderr)
+        return 1
     counts = {program: read_instructions(folder, program) for program in PROGRAMS}
+    units = {part: unit for part, (_, _, unit, _) in counts["proved"].items()}
+    counted = {part: {program: counts[program][part][0] for program in PROGRAMS if part in counts[program]}
+               for part in units}
     with stored.open("w", newline="") as file:
         out = csv.writer(file, lineterminator="\n")
         out.writerow(["case", "standing", "unit"] + PROGRAMS)
-        for part, (_, _, unit) in counts["proved"].items():
-            out.writerow([*part, unit] + [f"{counts[program][part][0]:.3f}" for program in PROGRAMS])
+        for part, numbers in counted.items():
+            out.writerow([*part, units[part]]
+                         + [f"{numbers[program]:.3f}" if program in numbers else "" for program in PROGRAMS])
+    write_picture(picture, counted)
     rows = []
-    for part, (proved, _, unit) in counts["proved"].items():
-        others = [counts[program][part][0] for program in OTHERS]
-        digits = 1 if unit == "byte" else 0
-        numbers = [f"{number:,.{digits}f}" for number in [proved] + others]
-        label = f"{part[0]}, a {unit}" if unit == "byte" else part[0]
-        rows.append([label, f"{part[1]:,}"] + numbers + [multiple(proved / other) for other in others])
+    for part, numbers in counted.items():
+        digits = 1 if units[part] == "byte" else 0
+        label = f"{part[0]}, a byte" if units[part] == "byte" else part[0]
+        rows.append([label, f"{part[1]:,}"]
+                    + [f"{numbers[program]:,.{digits}f}" if program in numbers else "" for program in PROGRAMS]
+                    + compared(numbers))
     print("Instructions for one:\n")
     table(["part", "standing"] + [NAMES[program] for program in PROGRAMS] + TO_OTHERS, rows)
+    print_groups(counts)
+    print_functions(folder)
+    print_peaks(folder / "peaks.csv")
+    return 0
+
+
+def print_groups(counts):
     groups = [name for name, _ in GROUPS] + ["the rest"]
     rows = []
     for part in [("event create", 0), ("event open", 0), ("event last close", 0), ("rr open", 0),
                  ("event open with 4 attributes", 0), ("line", 0), ("create and close beside", 1000)]:
-        if part in counts["proved"]:
-            for program in ("proved", "vectors", "records"):
-                total, costs, _ = counts[program][part]
+        for program in PROGRAMS:
+            if part in counts[program]:
+                total, costs, _, _ = counts[program][part]
                 rows.append([part[0], NAMES[program], f"{total:,.0f}"]
                             + [f"{costs.get(group, 0):,.0f}" for group in groups])
     print("Where they are spent:\n")
     table(["part", "program", "all"] + groups, rows)
 
 
-# What is explained: of each part, what the proved layer takes more than the plain one over vectors.
-EXPLAINED = [("event create", 0), ("event open", 0), ("event last close", 0), ("rr create", 0), ("line", 0),
-             ("creates by node 1", 1000), ("open and close by node 2", 1000), ("create and close beside", 1000),
-             ("list", 1000)]
+# Of these parts the large table's instructions are printed by function, beside the most services.
+BY_FUNCTION = list(TITLES)
+
+
+def functions_of(folder, program, standing):
+    """Of each of these parts the instructions of one, by function."""
+    found = {}
+    for part, _, count, path in sections_of(folder, program):
+        if part[0] in BY_FUNCTION and part[1] == standing:
+            costs = found.setdefault(part[0], {})
+            for function, cost, _ in costs_of(path):
+                costs[function] = costs.get(function, 0) + cost / count
+    return found
+
+
+def print_functions(folder):
+    standing = max((part[1] for part, *_ in sections_of(folder, "large")), default=0)
+    for program in ("large", "map"):
+        for case, costs in functions_of(folder, program, standing).items():
+            whole = sum(costs.values())
+            print(f"{NAMES[program]}: {case}, beside {standing:,}: {whole:,.0f} instructions for one, by function:\n")
+            most = sorted(costs.items(), key=lambda item: -item[1])[:16]
+            table(["function", "instructions", "of all"],
+                  [[f"`{function}`", f"{cost:,.0f}", f"{100 * cost / whole:.0f} %"] for function, cost in most])
+
+
+# What is explained: what of these parts a program takes more than another one.
+EXPLAINED = {
+    ("proved", "vectors"): [
+        ("event create", 0), ("event open", 0), ("event last close", 0), ("rr create", 0), ("line", 0),
+        ("creates by node 1", 1000), ("open and close by node 2", 1000), ("create and close beside", 1000),
+        ("list", 1000)],
+    ("large", "map"): [
+        ("event create", 0), ("event open", 0), ("event last close", 0), ("line", 0),
+        ("creates by node 1", 1000), ("open and close by node 2", 1000), ("create and close beside", 1000),
+        ("creates by node 1", 100000), ("open and close by node 2", 100000), ("create and close beside", 100000)],
+}
 CAUSES = ["SHA-1", "zeros in place", "copies and zeros", "memory", "comparisons", "the rest"]
 # A create's hash is made in these.
 HASHING = re.compile(r"into_caller|ServiceHash::of")
@@ -320,80 +398,103 @@ def stores_of_zeros(program):
     return found
 
 
-def causes_of(folder, program, zeros):
+def causes_of(folder, program, explained, zeros):
     """Of each explained part the instructions of one, by causes."""
-    counts, sums = folder / f"counts-{program}", {}
-    for index, section in enumerate((counts / "sections").read_text().splitlines(), 1):
-        case, standing, _, count = (section.rsplit(",", 3) if section != "-" else ("", "0", "", "0"))
-        if (case, int(standing)) in EXPLAINED:
-            times, costs = sums.setdefault((case, int(standing)), [0, {}])
-            sums[case, int(standing)][0] += float(count)
-            function, is_call = "", False
-            for line in (counts / f"out.{index}").open():
-                number = re.match(r"0x([0-9a-f]+) \d+ (\d+)\s*$", line)
-                if line.startswith("fn="):
-                    function = line[3:].strip()
-                elif number and not is_call:
-                    cause = "SHA-1" if HASHING.search(function) else group_of(function)
-                    cause = "zeros in place" if cause == "the rest" and int(number.group(1), 16) in zeros else cause
-                    costs[cause] = costs.get(cause, 0) + int(number.group(2))
-                is_call = line.startswith("calls=")
+    sums = {}
+    for part, _, count, path in sections_of(folder, program):
+        if part in explained:
+            entry = sums.setdefault(part, [0, {}])
+            entry[0] += count
+            for function, cost, address in costs_of(path, of_instructions=True):
+                cause = "SHA-1" if HASHING.search(function) else group_of(function)
+                cause = "zeros in place" if cause == "the rest" and address and int(address, 16) in zeros else cause
+                entry[1][cause] = entry[1].get(cause, 0) + cost
     return {part: {cause: cost / times for cause, cost in costs.items()} for part, (times, costs) in sums.items()}
 
 
-def report_causes(folder, program):
-    zeros = stores_of_zeros(program)
-    proved, vectors = (causes_of(folder, name, zeros) for name in ("proved", "vectors"))
-    rows = []
-    for part in EXPLAINED:
-        if part in proved:
-            more = [proved[part].get(cause, 0) - vectors[part].get(cause, 0) for cause in CAUSES]
-            label = part[0] if not part[1] else f"{part[0]}, {part[1]:,} standing"
-            rows.append([label, f"{sum(proved[part].values()) / sum(vectors[part].values()):.2f}"]
-                        + [f"{number:,.0f}" for number in [sum(more)] + more])
-    print("Instructions for one that are more than in vectors, by causes:\n")
-    table(["part", "to vectors", "more"] + CAUSES, rows)
+def report_causes(folder, driver):
+    zeros = stores_of_zeros(driver)
+    for (program, other), explained in EXPLAINED.items():
+        costs, others = (causes_of(folder, name, explained, zeros) for name in (program, other))
+        rows = []
+        for part in explained:
+            if part in costs and part in others:
+                more = [costs[part].get(cause, 0) - others[part].get(cause, 0) for cause in CAUSES]
+                label = part[0] if not part[1] else f"{part[0]}, {part[1]:,} standing"
+                rows.append([label, f"{sum(costs[part].values()) / sum(others[part].values()):.2f}"]
+                            + [f"{number:,.0f}" for number in [sum(more)] + more])
+        print(f"{NAMES[program]}: instructions for one that are more than in {other}, by causes:\n")
+        table(["part", f"to {other}", "more"] + CAUSES, rows)
 
 
 def read_counted(stored):
-    """What a run that counted instructions wrote."""
+    """What a run that counted instructions wrote: of each part its unit, and the programs' instructions."""
     counted = {}
     for row in csv.DictReader(stored.open()):
-        counted[row["case"], int(row["standing"])] = [float(row[program]) for program in PROGRAMS]
+        numbers = {program: float(row[program]) for program in PROGRAMS if row.get(program)}
+        counted[row["case"], int(row["standing"])] = row["unit"], numbers
     return counted
 
 
-def report_page(folder, stored):
-    """The page's table, of the last run that timed and the last one that counted."""
-    times, units = read_times(folder)
-    counted = read_counted(stored)
-    forms = [f"{what} {pattern}" for pattern in ("event", "pubsub", "rr") for what in ("encode", "decode")]
-    beside = [(case, standing) for standing in sorted({standing for _, standing in counted}) for case in BESIDE]
+def print_page_parts(counted, least):
+    """Of each part with no standing services: over the table and over the large one, with the multiples of others."""
     rows = []
-    for part in [(case, 0) for case in SHORT + forms] + beside:
-        if part in times and part in counted:
-            scale = 1 if units[part] == "byte" else 1000
-            time = [f"{statistics.median(times[part]['proved']) / scale:.2f}"]
-            time += [multiple(statistics.median(ratios(times[part], other))) for other in OTHERS]
-            proved, *others = counted[part]
-            digits = 1 if units[part] == "byte" else 0
-            label = f"{part[0]}, a byte" if units[part] == "byte" else part[0]
-            fewer = [multiple(proved / other) for other in others]
-            rows.append([label, f"{part[1]:,}" if part[1] else "", f"{proved:,.{digits}f}"] + fewer + time)
-    table(["part", "standing", "instructions"] + TO_OTHERS + ["time"] + TO_OTHERS, rows)
+    for part in [(case, 0) for case in SHORT + FORMS if "with 4" not in case or case in SHORT]:
+        if part in counted:
+            unit, numbers = counted[part]
+            # A form needs no table.
+            programs = PROGRAMS[:1] if unit == "byte" else PROGRAMS[:2]
+            own = [f"{numbers[program]:,.{1 if unit == 'byte' else 0}f}" for program in programs]
+            times = [f"{least[part][1][program]:.2f}" for program in programs] if part in least else []
+            of_part = compared(numbers)
+            large = own[1:] + of_part[3:] if own[1:] else ["", "", ""]
+            rows.append([f"{part[0]}, a byte" if unit == "byte" else part[0]] + own[:1] + of_part[:3] + large
+                        + (times + [""] * 2)[:2])
+    table(["part", "table"] + TO_OTHERS[:3] + ["large table", "to map", "to records", "time", "time, large"], rows)
+
+
+def print_page_growth(numbers, what, digits):
+    """Of each part beside standing services, by their number."""
+    standing = sorted({number for case, number in numbers if case in BESIDE})
+    if not standing:
+        return
+    rows = []
+    for case, title in TITLES.items():
+        # The picture has the vectors too.
+        for program in ["proved", "large", "map", "records"]:
+            found = [numbers[case, number][1].get(program) if (case, number) in numbers else None
+                     for number in standing]
+            # Three digits are enough.
+            rows.append([title, NAMES[program]]
+                        + ["" if one is None else f"{one:,.{digits if one < 100 else 0}f}" for one in found])
+    table([f"{what}, beside", "program"] + [f"{number:,}" for number in standing], rows)
+
+
+def report_page(folder, stored):
+    """The page's tables, of the stored instructions and of the last run that timed."""
+    counted = read_counted(stored)
+    times, units = read_times(folder)
+    # Of a byte nanoseconds, of all else microseconds: the least of the starts, which other tasks disturb least.
+    least = {part: (units[part], {program: min(values) / (1 if units[part] == "byte" else 1000)
+                                  for program, values in programs.items()})
+             for part, programs in times.items()}
+    print("The page's tables:\n")
+    print_page_parts(counted, least)
+    print_page_growth(counted, "instructions for one", 0)
+    if least:
+        print_page_growth(least, "microseconds for one", 2)
 
 
 def guard(folder, stored):
-    counts = read_instructions(folder, "proved")
-    differing = 0
-    for row in csv.DictReader(stored.open()):
-        part, before = (row["case"], int(row["standing"])), float(row["proved"])
-        now = counts[part][0] if part in counts else 0
-        change = now / before - 1
-        if abs(change) > ALLOWED:
-            differing += 1
-            print(f"{part[0]}, {part[1]} standing: {before:,.1f} instructions before, {now:,.1f} now "
-                  f"({100 * change:+.1f} %)")
+    counted, differing = read_counted(stored), 0
+    for program in PROGRAMS[:2]:
+        for part, (now, _, _, count) in read_instructions(folder, program).items():
+            before = counted[part][1].get(program, 0) if part in counted else 0
+            change = now / before - 1 if before else 1
+            if abs(change) > ALLOWED and abs(now - before) * count > ALLOWED_IN_ALL:
+                differing += 1
+                print(f"{NAMES[program]}: {part[0]}, {part[1]:,} standing: {before:,.1f} instructions before, "
+                      f"{now:,.1f} now ({100 * change:+.1f} %)")
     if not differing:
         print("each part takes as many instructions as before, within 3 percent")
     return 1 if differing else 0
@@ -401,12 +502,12 @@ def guard(folder, stored):
 
 def main(words):
     match words:
-        case ["times", folder, results, picture]:
-            report_times(Path(folder), Path(results), Path(picture))
-        case ["instructions", folder, stored]:
-            report_instructions(Path(folder), Path(stored))
-        case ["causes", folder, program]:
-            report_causes(Path(folder), program)
+        case ["times", folder, results]:
+            report_times(Path(folder), Path(results))
+        case ["instructions", folder, stored, picture]:
+            return report_instructions(Path(folder), Path(stored), Path(picture))
+        case ["causes", folder, driver]:
+            report_causes(Path(folder), driver)
         case ["page", folder, stored]:
             report_page(Path(folder), Path(stored))
         case ["guard", folder, stored]:

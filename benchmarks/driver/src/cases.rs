@@ -17,7 +17,7 @@ pub struct Part {
     pub name: String,
     /// How many services stand beside it.
     pub standing: usize,
-    /// What is counted: operations, lines, entries or bytes.
+    /// What is counted: operations, lines, services or bytes.
     pub unit: &'static str,
     pub count: usize,
 }
@@ -88,14 +88,14 @@ fn pattern_case(pattern: PatternTexts, with_attributes: bool, rounds: usize) -> 
     }
 }
 
-/// How long the replies to lines are.
+/// Twice as many bytes as the replies to lines have, so that none asks for room, and longer ones are seen.
 fn room_for(text: &[u8]) -> usize {
     let mut replies = Vec::new();
     serve(Table::<Records>::new(), text, &mut replies);
-    replies.len()
+    2 * replies.len()
 }
 
-/// Texts of lines, each by a new session, with just the room for the replies.
+/// Texts of lines, each by a new session.
 fn lines_case(name: &str, texts: Vec<Vec<u8>>) -> Case {
     let rooms: Vec<usize> = texts.iter().map(|text| room_for(text)).collect();
     let lines = texts.iter().flatten().filter(|byte| **byte == b'\n');
@@ -199,7 +199,7 @@ pub fn services(standing: usize, scale: &Scale) -> Case {
                 "operation",
                 scale.sample,
             ),
-            part("list", standing, "entry", standing),
+            part("list", standing, "service", standing),
         ],
         sections: vec![None, Some(0), Some(1), Some(2), Some(3), Some(4)],
         run: Box::new(move |program| {

@@ -3,8 +3,11 @@
 //! `time` times all cases that need no standing services by all programs, and prints the least time
 //! of several runs; `beside NUMBER` does so with those beside so many of them. `sections PROGRAM
 //! [NUMBER ..]` runs all once by one program, and prints for each reading of the clock what was done
-//! since the one before. `peak PROGRAM NUMBER` prints how much more memory the process had with so
-//! many standing services. The answers have to be the same.
+//! since the one before, and for each case its answers. `peak PROGRAM NUMBER` prints how much more
+//! memory the process had with so many standing services. The answers have to be the same.
+//!
+//! Where the environment has `PARTS`, words with commas between, only cases are run of which a part's
+//! name has one of the words.
 //!
 //! `log PATH` answers the lines of standard input by plain Rust over a log that processes share, and
 //! `files FOLDER` over files alone, which are in no order but the file system's.
@@ -39,13 +42,22 @@ pub struct Program {
     encode: fn(&[u8], u64) -> (u64, Vec<u8>),
 }
 
-const PROGRAMS: [Program; 4] = [
+const PROGRAMS: [Program; 5] = [
     Program {
         name: "proved",
-        services: measured::services,
-        standing: measured::standing,
-        commands: measured::commands,
-        lines: measured::lines,
+        services: measured::services::<false>,
+        standing: measured::standing::<false>,
+        commands: measured::commands::<false>,
+        lines: measured::lines::<false>,
+        decode: measured::decode,
+        encode: measured::encode,
+    },
+    Program {
+        name: "large",
+        services: measured::services::<true>,
+        standing: measured::standing::<true>,
+        commands: measured::commands::<true>,
+        lines: measured::lines::<true>,
         decode: measured::decode,
         encode: measured::encode,
     },
@@ -137,16 +149,32 @@ const COUNTED: Scale = Scale {
     sample: 200,
 };
 
-fn time_all(cases: Vec<Case>) -> Result<(), String> {
-    println!("case,standing,unit,program,count,nanoseconds");
-    cases.iter().try_for_each(time)
+/// Whether a case is run.
+fn is_wanted(case: &Case) -> bool {
+    match std::env::var("PARTS") {
+        Ok(words) => words
+            .split(',')
+            .any(|word| case.parts.iter().any(|part| part.name.contains(word))),
+        Err(_) => true,
+    }
 }
 
-/// Runs each case once, and prints what was done before each reading of the clock.
+fn time_all(cases: Vec<Case>) -> Result<(), String> {
+    println!("case,standing,unit,program,count,nanoseconds");
+    cases
+        .iter()
+        .filter(|case| is_wanted(case))
+        .try_for_each(time)
+}
+
+/// Runs each case once, and prints its answers and what was done before each reading of the clock.
 fn print_sections(program: &Program, numbers: &[usize]) {
     let beside = numbers.iter().map(|number| services(*number, &COUNTED));
-    for case in cases(&COUNTED).into_iter().chain(beside) {
-        let _ = (case.run)(program);
+    let cases = cases(&COUNTED).into_iter().chain(beside);
+    for case in cases.filter(is_wanted) {
+        let (_, sum) = (case.run)(program);
+        let first = &case.parts[0];
+        println!("answers,{},{},{sum}", first.name, first.standing);
         let times_done = |index| {
             let of_part = case.sections.iter().filter(|part| **part == Some(index));
             of_part.count().max(1)

@@ -1,10 +1,11 @@
-//! The static library of the proved layer.
+//! The static library of the proved layer, over a `Table` or a `LargeTable`.
 
 use crate::scenarios::{Names, Steps, Times};
 
 // In the library a slice crosses as a pointer and then a length, and a `Global` as nothing.
 unsafe extern "C" {
     fn measured_services(
+        is_large: bool,
         standing: *const u8,
         standing_len: usize,
         sample: *const u8,
@@ -14,9 +15,10 @@ unsafe extern "C" {
         times: *mut Times,
     ) -> u64;
 
-    fn measured_standing(standing: *const u8, standing_len: usize) -> u64;
+    fn measured_standing(is_large: bool, standing: *const u8, standing_len: usize) -> u64;
 
     fn measured_commands(
+        is_large: bool,
         text: *const u8,
         text_len: usize,
         steps: *const u8,
@@ -28,6 +30,7 @@ unsafe extern "C" {
     ) -> u64;
 
     fn measured_lines(
+        is_large: bool,
         input: *const u8,
         input_len: usize,
         output: *mut u8,
@@ -50,11 +53,12 @@ unsafe extern "C" {
 // what is written to is nobody else's during the call, and the export has no `requires`.
 
 /// The services' scenario by the proved layer: the times of its parts, and a sum of the answers.
-pub fn services(names: &Names) -> (Times, u64) {
+pub fn services<const IS_LARGE: bool>(names: &Names) -> (Times, u64) {
     let mut times = Times::default();
     // SAFETY: as above.
     let sum = unsafe {
         measured_services(
+            IS_LARGE,
             names.standing.as_ptr(),
             names.standing.len(),
             names.sample.as_ptr(),
@@ -68,16 +72,17 @@ pub fn services(names: &Names) -> (Times, u64) {
 }
 
 /// Lets a service stand for each name, and gives a sum of the answers.
-pub fn standing(names: &[u8]) -> u64 {
+pub fn standing<const IS_LARGE: bool>(names: &[u8]) -> u64 {
     // SAFETY: as above.
-    unsafe { measured_standing(names.as_ptr(), names.len()) }
+    unsafe { measured_standing(IS_LARGE, names.as_ptr(), names.len()) }
 }
 
 /// Carries out chunks of commands, adds their times, and gives a sum of the replies.
-pub fn commands(text: &[u8], steps: &Steps, times: &mut [u64]) -> u64 {
+pub fn commands<const IS_LARGE: bool>(text: &[u8], steps: &Steps, times: &mut [u64]) -> u64 {
     // SAFETY: as above.
     unsafe {
         measured_commands(
+            IS_LARGE,
             text.as_ptr(),
             text.len(),
             steps.records.as_ptr(),
@@ -91,11 +96,12 @@ pub fn commands(text: &[u8], steps: &Steps, times: &mut [u64]) -> u64 {
 }
 
 /// Answers lines: the time, and the replies, for which there is so much room.
-pub fn lines(input: &[u8], room: usize) -> (u64, Vec<u8>) {
+pub fn lines<const IS_LARGE: bool>(input: &[u8], room: usize) -> (u64, Vec<u8>) {
     let (mut text, mut time) = (vec![0; room], 0);
     // SAFETY: as above.
     let used = unsafe {
         measured_lines(
+            IS_LARGE,
             input.as_ptr(),
             input.len(),
             text.as_mut_ptr(),
