@@ -1,27 +1,14 @@
 /* Calls each function of wulameron.h, and compares what it gives with what the pages tell: over tables, or with a
  * folder as its argument over logs in it, where each node has a session of its own. Ends with the line
  * `N passed, M failed`, and with status 1 where one failed. */
+#include "checks.h"
 #include "wulameron.h"
 
 #include <stdio.h>
 #include <string.h>
 
-static unsigned passed, failed;
 static const char *folder; /* null over tables */
 static unsigned logs;
-
-static void check(int holds, const char *what, int line)
-{
-    if (holds) {
-        passed++;
-    } else {
-        failed++;
-        printf("calls.c:%d: failed: %s\n", line, what);
-    }
-}
-
-#define CHECK(test) check((test), #test, __LINE__)
-#define GIVES(code, call) check((call) == (code), #call " is " #code, __LINE__)
 
 /* A session of a node over the last log. */
 static wulameron_session *over_log(uint64_t node)
@@ -433,6 +420,5 @@ int main(int count, char **words)
     refusals();
     nodes();
     what_is_wrong();
-    printf("%u passed, %u failed\n", passed, failed);
-    return failed == 0 ? 0 : 1;
+    return counted();
 }

@@ -2,6 +2,7 @@
  * or forks, the node is taken. Takes a folder for logs; WULAMERON_PROGRAM names the program. Compiled with log.c and
  * -DPATIENCE=3, so that who waits for a program that is stopped waits three seconds. Ends with `N passed, M failed`. */
 #define _POSIX_C_SOURCE 200809L
+#include "checks.h"
 #include "wulameron.h"
 
 #include <fcntl.h>
@@ -14,21 +15,8 @@
 #include <time.h>
 #include <unistd.h>
 
-static unsigned passed, failed, logs;
+static unsigned logs;
 static const char *folder;
-
-static void check(int holds, const char *what, int line)
-{
-    if (holds) {
-        passed++;
-    } else {
-        failed++;
-        printf("faults.c:%d: failed: %s\n", line, what);
-    }
-}
-
-#define CHECK(test) check((test), #test, __LINE__)
-#define GIVES(code, call) check((call) == (code), #call " is " #code, __LINE__)
 
 static uint32_t opens(uint64_t node, wulameron_session **session)
 {
@@ -309,6 +297,5 @@ int main(int count, char **words)
         ignored_children, two_threads};
     folder = count > 1 ? words[1] : ".";
     for (logs = 0; logs < sizeof parts / sizeof *parts; logs++) parts[logs]();
-    printf("%u passed, %u failed\n", passed, failed);
-    return failed == 0 ? 0 : 1;
+    return counted();
 }

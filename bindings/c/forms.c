@@ -2,6 +2,7 @@
  * Takes a folder, in which it writes such programs. Compiled with log.c and -DPATIENCE=3. Ends with the line
  * `N passed, M failed`, and with status 1 where one failed. */
 #define _POSIX_C_SOURCE 200809L
+#include "checks.h"
 #include "wulameron.h"
 
 #include <stdio.h>
@@ -9,21 +10,8 @@
 #include <sys/stat.h>
 #include <time.h>
 
-static unsigned passed, failed, programs;
+static unsigned programs;
 static const char *folder;
-
-static void check(int holds, const char *what, int line)
-{
-    if (holds) {
-        passed++;
-    } else {
-        failed++;
-        printf("forms.c:%d: failed: %s\n", line, what);
-    }
-}
-
-#define CHECK(test) check((test), #test, __LINE__)
-#define GIVES(code, call) check((call) == (code), #call " is " #code, __LINE__)
 
 /* A frame with these numbers, and texts of these lengths. */
 typedef struct {
@@ -153,6 +141,5 @@ int main(int count, char **words)
     first_frames();
     replies();
     endless();
-    printf("%u passed, %u failed\n", passed, failed);
-    return failed == 0 ? 0 : 1;
+    return counted();
 }

@@ -189,7 +189,8 @@ uint32_t wulameron_set_number(wulameron_session *session, uint32_t setting, uint
 /* That there is none, for a setting that may have none. */
 uint32_t wulameron_set_none(wulameron_session *session, uint32_t setting);
 uint32_t wulameron_set_duration(wulameron_session *session, uint32_t setting, uint64_t seconds, uint32_t nanoseconds);
-/* The type of a part of a message. A part whose type isn't set has one that stands for any. */
+/* The type of a part of a message. A part whose type isn't set has a marker's (CustomPayloadMarker, CustomHeaderMarker),
+ * so an open has to set the service's. */
 uint32_t wulameron_set_type(wulameron_session *session, uint32_t part, uint32_t variant, const char *name,
     size_t name_length, uint64_t size, uint64_t alignment);
 /* A pair that a create defines and an open requires. */
