@@ -15,7 +15,7 @@ PROGRAMS = (
     ("faults", IMPATIENT, SHIM, ("logs",)),
     ("forms", IMPATIENT, SHIM, ("logs",)),
 )
-PAGES = ("README.md", "docs/C.md")
+PAGES = ("docs/C.md",)
 
 
 def headers(checks):
