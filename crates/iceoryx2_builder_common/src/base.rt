@@ -11,6 +11,7 @@ use std::alloc::AllocError;
 use std::marker::{Model, PhantomData};
 
 /// What a builder has once its pattern is chosen, whatever the pattern is: the node and the name.
+/// Hidden in iceoryx2.
 pub struct BuilderWithServiceType<S: Service> {
     node: u64,
     name: ServiceName,

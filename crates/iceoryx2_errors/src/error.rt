@@ -64,6 +64,7 @@ pub fn equality_of_errors()
 {}
 
 /// What a look finds wrong, whatever the pattern.
+/// Hidden in iceoryx2.
 #[derive(Debug, Clone, Copy, PartialEq, Eq, Hash)]
 pub enum ServiceState {
     /// The service is of another pattern.

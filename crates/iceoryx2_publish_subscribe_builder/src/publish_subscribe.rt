@@ -157,6 +157,7 @@ impl<S: Service> Builder<Slice<CustomPayloadMarker>, CustomHeaderMarker, S> {
 
 impl<U: ZeroCopySend, S: Service> Builder<Slice<CustomPayloadMarker>, U, S> {
     /// The type that stands in place of the payload's marker.
+    /// Hidden in iceoryx2.
     pub fn internal_set_payload_type_details(self, value: TypeDetail) -> Self
         ensures { result ≡ with_setting self (PublishSubscribeSetter.PayloadType value) }
     {
@@ -166,6 +167,7 @@ impl<U: ZeroCopySend, S: Service> Builder<Slice<CustomPayloadMarker>, U, S> {
 
 impl<P: ZeroCopySend, S: Service> Builder<P, CustomHeaderMarker, S> {
     /// The type that stands in place of the user header's marker.
+    /// Hidden in iceoryx2.
     pub fn internal_set_user_header_type_details(self, value: TypeDetail) -> Self
         ensures { result ≡ with_setting self (PublishSubscribeSetter.UserHeaderType value) }
     {

@@ -161,6 +161,7 @@ impl<S: Service> Builder<
     }
 
     /// The type that stands in place of the marker of a request's payload.
+    /// Hidden in iceoryx2.
     pub fn internal_set_request_payload_type_details(self, value: TypeDetail) -> Self
         ensures { result ≡ with_setting self (RequestResponseSetter.RequestPayloadType value) }
     {
@@ -168,6 +169,7 @@ impl<S: Service> Builder<
     }
 
     /// The type that stands in place of the marker of a request's user header.
+    /// Hidden in iceoryx2.
     pub fn internal_set_request_header_type_details(self, value: TypeDetail) -> Self
         ensures { result ≡ with_setting self (RequestResponseSetter.RequestHeaderType value) }
     {
@@ -175,6 +177,7 @@ impl<S: Service> Builder<
     }
 
     /// The type that stands in place of the marker of a response's payload.
+    /// Hidden in iceoryx2.
     pub fn internal_set_response_payload_type_details(self, value: TypeDetail) -> Self
         ensures { result ≡ with_setting self (RequestResponseSetter.ResponsePayloadType value) }
     {
@@ -182,6 +185,7 @@ impl<S: Service> Builder<
     }
 
     /// The type that stands in place of the marker of a response's user header.
+    /// Hidden in iceoryx2.
     pub fn internal_set_response_header_type_details(self, value: TypeDetail) -> Self
         ensures { result ≡ with_setting self (RequestResponseSetter.ResponseHeaderType value) }
     {

@@ -38,6 +38,7 @@ pub enum CreateRefusal {
 /// What a pattern's builder asks of a service, and how its calls name what goes wrong.
 ///
 /// It stands for one call: its settings and marks, and the message types that it prepared.
+/// Hidden; iceoryx2 has no such trait.
 pub trait Pattern: Drop {
     /// Why an open is refused.
     type OpenError: Copy;

@@ -11,6 +11,7 @@ use std::error::Error;
 use std::fmt;
 
 /// What a look of a builder of request-response finds wrong.
+/// Hidden in iceoryx2.
 #[derive(Debug, Clone, Copy, PartialEq, Eq, Hash)]
 pub enum ServiceAvailabilityState {
     /// What may be wrong whatever the pattern.

@@ -8,14 +8,17 @@ ghost use Rattle.iceoryx2_types.specs.Types.{fixed_size};
 use super::{TypeVariant, ZeroCopySend};
 
 /// Stands in place of a user header.
+/// Hidden in iceoryx2.
 #[derive(Clone, Copy, Debug, PartialEq, Eq)]
 pub struct CustomHeaderMarker;
 
 /// Stands in place of a payload.
+/// Hidden in iceoryx2.
 #[derive(Clone, Copy, Debug, PartialEq, Eq)]
 pub struct CustomPayloadMarker(u8);
 
 /// Stands in place of a key.
+/// Hidden in iceoryx2.
 #[derive(Clone, Copy, Debug, PartialEq, Eq)]
 pub struct CustomKeyMarker(u8);
 
