@@ -26,13 +26,19 @@ REFUSED = 1
 BEGUN = 1
 
 
+def interruptible():
+    """Lets a program be interrupted. A shell without job control has what it runs in the background ignore SIGINT, and
+    the programs that such a script begins would ignore it too."""
+    signal.signal(signal.SIGINT, signal.SIG_DFL)
+
+
 class Command:
     """A process of the program whose lines are read as they come, and whose input is open until it is ended."""
 
     def __init__(self, runs, path, *words):
         streams = {name: subprocess.PIPE for name in ("stdin", "stdout", "stderr")}
         self.process = subprocess.Popen(
-            [runs.program, *words, "--at", str(path)], env=runs.environment(path), **streams
+            [runs.program, *words, "--at", str(path)], env=runs.environment(path), preexec_fn=interruptible, **streams
         )
         runs.count("processes")
         self.lines = queue.Queue()
