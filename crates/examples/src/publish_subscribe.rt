@@ -38,7 +38,7 @@ fn open(alloc: Global, node: u64, floor: &str, table: &mut Table) -> Result<Pose
 /// Node 2 opens it, reads what its payload is, and closes it.
 fn read(rt: &HostRuntime, table: &mut Table) -> Result<()> {
     let factory = open(rt.alloc(), 2, "2", table)?;
-    let payload = factory.static_config().message_type_details.payload();
+    let payload = &factory.static_config().message_type_details.payload;
     let (name, size, alignment) = (payload.type_name(), payload.size(), payload.alignment());
     let printed = println!(rt; "  payload: {name}, {size} bytes at multiples of {alignment}");
     close(factory, table)?;

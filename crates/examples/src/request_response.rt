@@ -24,7 +24,7 @@ fn create(alloc: Global, table: &mut Table) -> Result<Planning> {
 /// Prints what was agreed.
 fn print_facts(rt: &HostRuntime, factory: &Planning) -> Result<()> {
     let settings = factory.static_config();
-    let request = settings.request_message_type_details.payload();
+    let request = &settings.request_message_type_details.payload;
     let (variant, size) = (request.variant(), request.size());
     println!(rt; "  a request: {variant:?}, {size} bytes each")?;
     let room = settings.max_response_buffer_size;

@@ -8,9 +8,9 @@ use iceoryx2_types::types::{MessageTypeDetails, TypeDetail};
 pub(crate) fn message_fits(message: &MessageTypeDetails)
     ensures { IsMeasuredMessage message.now }
 {
-    detail_fits(message.header());
-    detail_fits(message.user_header());
-    detail_fits(message.payload());
+    detail_fits(&message.header);
+    detail_fits(&message.user_header);
+    detail_fits(&message.payload);
 }
 
 fn detail_fits(detail: &TypeDetail)

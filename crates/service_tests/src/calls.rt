@@ -280,12 +280,12 @@ pub fn given_by(registration: &Registration) -> Given {
             number,
             numbers_of_messages(settings),
             settings.enable_safe_overflow,
-            settings.message_type_details.payload().alignment(),
+            settings.message_type_details.payload.alignment(),
         ),
         MessagingPattern::RequestResponse(settings) => {
             let alignments = [
-                settings.request_message_type_details.payload().alignment(),
-                settings.response_message_type_details.payload().alignment(),
+                settings.request_message_type_details.payload.alignment(),
+                settings.response_message_type_details.payload.alignment(),
             ];
             let (flags, numbers) = (flags_of_requests(settings), numbers_of_requests(settings));
             Given::RequestResponse(number, flags, numbers, alignments)

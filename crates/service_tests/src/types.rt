@@ -135,9 +135,9 @@ fn facts_of(detail: &TypeDetail) -> TypeFacts {
 /// Whether this is known of a message's header, user header and payload.
 pub fn consists_of(message: &MessageTypeDetails, wanted: [TypeFacts; 3]) -> bool {
     let found = [
-        facts_of(message.header()),
-        facts_of(message.user_header()),
-        facts_of(message.payload()),
+        facts_of(&message.header),
+        facts_of(&message.user_header),
+        facts_of(&message.payload),
     ];
     found == wanted
 }
@@ -193,11 +193,11 @@ pub fn detail(rt: &impl Abort, alloc: Global, facts_of: TypeFacts) -> TypeDetail
 /// The types of a message with these alignments.
 fn of_i64(rt: &impl Abort, alloc: Global, alignments: [u64; 3]) -> MessageTypeDetails {
     let [header, user_header, payload] = alignments;
-    MessageTypeDetails::new(
-        detail(rt, alloc, (FixedSize, "i64", 8, header)),
-        detail(rt, alloc, (FixedSize, "i64", 8, user_header)),
-        detail(rt, alloc, (FixedSize, "i64", 8, payload)),
-    )
+    MessageTypeDetails {
+        header: detail(rt, alloc, (FixedSize, "i64", 8, header)),
+        user_header: detail(rt, alloc, (FixedSize, "i64", 8, user_header)),
+        payload: detail(rt, alloc, (FixedSize, "i64", 8, payload)),
+    }
 }
 
 /// Alignments of the header, the user header and the payload of two messages, and whether the first is

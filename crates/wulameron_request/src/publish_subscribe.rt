@@ -94,8 +94,8 @@ pub fn type_in(settings: &StaticConfig, part: u32) -> Result<&TypeDetail, Reques
         (λ error. by_number.type_in settings.now part ≡ Err error) }
 {
     match part {
-        1 => Ok(settings.message_type_details.payload()),
-        2 => Ok(settings.message_type_details.user_header()),
+        1 => Ok(&settings.message_type_details.payload),
+        2 => Ok(&settings.message_type_details.user_header),
         _ => Err(RequestError::UnknownSetting),
     }
 }

@@ -112,10 +112,10 @@ pub fn type_in(settings: &StaticConfig, part: u32) -> Result<&TypeDetail, Reques
         (λ error. by_number.type_in settings.now part ≡ Err error) }
 {
     match part {
-        3 => Ok(settings.request_message_type_details.payload()),
-        4 => Ok(settings.request_message_type_details.user_header()),
-        5 => Ok(settings.response_message_type_details.payload()),
-        6 => Ok(settings.response_message_type_details.user_header()),
+        3 => Ok(&settings.request_message_type_details.payload),
+        4 => Ok(&settings.request_message_type_details.user_header),
+        5 => Ok(&settings.response_message_type_details.payload),
+        6 => Ok(&settings.response_message_type_details.user_header),
         _ => Err(RequestError::UnknownSetting),
     }
 }

@@ -164,9 +164,9 @@ fn types_value(alloc: Global, pattern: &MessagingPattern) -> Result<Value, Alloc
 fn message_value(alloc: Global, message: &MessageTypeDetails) -> Result<Value, AllocError>
     ensures { IfOk result (λ v. view v ≡ message_data message.now) }
 {
-    let header = detail_value(alloc, message.header())?;
-    let payload = detail_value(alloc, message.payload())?;
-    let user_header = detail_value(alloc, message.user_header())?;
+    let header = detail_value(alloc, &message.header)?;
+    let payload = detail_value(alloc, &message.payload)?;
+    let user_header = detail_value(alloc, &message.user_header)?;
     json!(in alloc; {"header": header, "payload": payload, "user_header": user_header})
 }
 

@@ -185,9 +185,9 @@ fn write_message(
     ensures { OnOk result (string_bytes text.new
         ≡ string_bytes text.old ++ message_lines header.now user_header.now payload.now message.now) }
 {
-    write_part(header, message.header(), text)?;
-    write_part(user_header, message.user_header(), text)?;
-    write_part(payload, message.payload(), text)
+    write_part(header, &message.header, text)?;
+    write_part(user_header, &message.user_header, text)?;
+    write_part(payload, &message.payload, text)
 }
 
 #[tactic(auto, unfolding(crate::specs::ShowTexts::part_line))]

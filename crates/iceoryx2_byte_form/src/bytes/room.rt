@@ -30,9 +30,9 @@ fn detail(detail: &TypeDetail) -> usize {
 }
 
 fn message(message: &MessageTypeDetails) -> usize {
-    detail(message.header())
-        .saturating_add(detail(message.user_header()))
-        .saturating_add(detail(message.payload()))
+    detail(&message.header)
+        .saturating_add(detail(&message.user_header))
+        .saturating_add(detail(&message.payload))
 }
 
 /// Four numbers, three ids and a deadline.

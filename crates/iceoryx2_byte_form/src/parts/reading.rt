@@ -292,5 +292,10 @@ pub fn message_of(alloc: Global, bytes: &[u8]) -> Result<(MessageTypeDetails, &[
     let (header, rest) = detail_of(alloc, bytes)?;
     let (user_header, rest) = detail_of(alloc, rest)?;
     let (payload, rest) = detail_of(alloc, rest)?;
-    Ok((MessageTypeDetails::new(header, user_header, payload), rest))
+    let message = MessageTypeDetails {
+        header,
+        user_header,
+        payload,
+    };
+    Ok((message, rest))
 }

@@ -112,8 +112,8 @@ fn put_detail(out: &mut Vec<u8>, detail: &TypeDetail) -> Result<(), AllocError>
 pub fn put_message(out: &mut Vec<u8>, message: &MessageTypeDetails) -> Result<(), AllocError>
     ensures { OnOk result (out.new.items ≡ out.old.items ++ form.message message.now) }
 {
-    put_detail(out, message.header())?;
-    put_detail(out, message.user_header())?;
-    put_detail(out, message.payload())?;
+    put_detail(out, &message.header)?;
+    put_detail(out, &message.user_header)?;
+    put_detail(out, &message.payload)?;
     Ok(())
 }

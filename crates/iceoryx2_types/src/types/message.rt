@@ -12,9 +12,12 @@ use std::marker::Model;
 /// The types of a message: of its header, of its user header and of its payload.
 #[derive(Debug, PartialEq, Eq)]
 pub struct MessageTypeDetails {
-    header: TypeDetail,
-    user_header: TypeDetail,
-    payload: TypeDetail,
+    /// The header's type.
+    pub header: TypeDetail,
+    /// The user header's type.
+    pub user_header: TypeDetail,
+    /// The payload's type.
+    pub payload: TypeDetail,
 }
 
 // Written out, so that a proof of what lets one go doesn't take its fields apart.
@@ -45,24 +48,6 @@ impl Model for MessageTypeDetails {
 }
 
 impl MessageTypeDetails {
-    /// A message of these types.
-    pub fn new(
-        header: TypeDetail,
-        user_header: TypeDetail,
-        payload: TypeDetail,
-    ) -> MessageTypeDetails
-        ensures { result ≡ message_of header user_header payload }
-    {
-        let _header = header.size();
-        let _user_header = user_header.size();
-        let _payload = payload.size();
-        MessageTypeDetails {
-            header,
-            user_header,
-            payload,
-        }
-    }
-
     /// What the three types state of themselves: one header, one user header, and a payload of one
     /// value or a number of them. `AllocError` where there was no memory for their names.
     pub fn from<H: ZeroCopySend, U: ZeroCopySend, P: ZeroCopySend>(
@@ -76,7 +61,11 @@ impl MessageTypeDetails {
         let header = TypeDetail::from_type::<H>(alloc, TypeVariant::FixedSize)?;
         let user_header = TypeDetail::from_type::<U>(alloc, TypeVariant::FixedSize)?;
         let payload = TypeDetail::from_type::<P>(alloc, variant)?;
-        Ok(MessageTypeDetails::new(header, user_header, payload))
+        Ok(MessageTypeDetails {
+            header,
+            user_header,
+            payload,
+        })
     }
 
     /// These types as a call asks for them: where a user header or a payload is given, it takes
@@ -99,31 +88,11 @@ impl MessageTypeDetails {
         } = self;
         let user_header = user_header.unwrap_or(own_user_header);
         let payload = payload.unwrap_or(own_payload).with_alignment(alignment);
-        MessageTypeDetails::new(header, user_header, payload)
-    }
-
-    /// The header's type.
-    pub fn header(&self) -> &TypeDetail
-        ensures value { result.now ≡ self.now.header }
-        ensures limits { IsDetail self.now.header }
-    {
-        &self.header
-    }
-
-    /// The user header's type.
-    pub fn user_header(&self) -> &TypeDetail
-        ensures value { result.now ≡ self.now.user_header }
-        ensures limits { IsDetail self.now.user_header }
-    {
-        &self.user_header
-    }
-
-    /// The payload's type.
-    pub fn payload(&self) -> &TypeDetail
-        ensures value { result.now ≡ self.now.payload }
-        ensures limits { IsDetail self.now.payload }
-    {
-        &self.payload
+        MessageTypeDetails {
+            header,
+            user_header,
+            payload,
+        }
     }
 
     /// Whether messages of these types may be sent where those of the other are: the headers are

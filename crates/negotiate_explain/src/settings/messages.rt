@@ -19,14 +19,14 @@ pub(super) fn describe_message(
     ensures { OnOk result (string_bytes text.new ≡ string_bytes text.old
         ++ message_lines user_header.now payload.now required.now offered.now) }
 {
-    describe_part("header", required.header(), offered.header(), text)?;
+    describe_part("header", &required.header, &offered.header, text)?;
     describe_part(
         user_header,
-        required.user_header(),
-        offered.user_header(),
+        &required.user_header,
+        &offered.user_header,
         text,
     )?;
-    describe_part(payload, required.payload(), offered.payload(), text)
+    describe_part(payload, &required.payload, &offered.payload, text)
 }
 
 /// Writes of one part of a message what is required and what is offered.
