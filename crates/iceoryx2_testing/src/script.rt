@@ -52,7 +52,10 @@ impl Model for Script {
 impl Script {
     /// A script of these answers, of which nothing was asked yet.
     pub fn new(answers: Vec<Answer>) -> Script
-        ensures { result ≡ record { remaining = answers.items; counters = Counters.NONE } }
+        ensures { result ≡ record {
+          remaining = answers.items;
+          counters = record { looks = 0; openings = 0; makings = 0 };
+        } }
     {
         Script {
             queue: Queue::new(answers),

@@ -46,7 +46,7 @@ impl<S> Faulty<S> {
           inner = inner;
           refused = refused.items;
           accesses = 0;
-          counters = Counters.NONE;
+          counters = record { looks = 0; openings = 0; makings = 0 };
         } }
     {
         Faulty {
