@@ -42,6 +42,15 @@ needs_room _ _ = false
 abbrev pub may_starve : World → Step → Bool
 may_starve w x = needs_room (act_of x.act) (phase_of w (Peer x.peer) x.hash)
 
+-- The acts that need no room, at a phase of their peer: each that takes something away, reads once more or joins
+-- once more.
+pub data NeedsNoRoom : act.Act → Phase → Type 0 where
+  removes_segment : {f : Phase} → NeedsNoRoom act.RemoveSegment f
+  removes_description : {f : Phase} → NeedsNoRoom act.RemoveDescription f
+  leaves : {f : Phase} → NeedsNoRoom act.Leave f
+  reads_again : {n : ℕ} → NeedsNoRoom act.Read (at.Read n)
+  joins_again : {n k : ℕ} → NeedsNoRoom act.Join (at.Joined n k)
+
 -- the count after a step that answered this: one that found no memory is counted
 abbrev pub skipped_after : Result Bool AllocError → ℕ → ℕ
 skipped_after (Ok done) k = k

@@ -13,7 +13,7 @@ use Rattle.iceoryx2_access.specs.Registered.{Registered}
 use Rattle.iceoryx2_access.specs.Run.{Run, Each}
 use Rattle.iceoryx2_access.specs.MayRefuse.{MayRefuse}
 use Rattle.iceoryx2_world.specs.declared.world.Participant.{Participant}
-use Rattle.iceoryx2_world.specs.declared.world.Participant.TheVariants.{Node}
+use Rattle.iceoryx2_world.specs.declared.world.Participant.TheVariants.{Node, Peer}
 use Rattle.iceoryx2_world.specs.declared.world.Ticket.{Ticket}
 use Rattle.iceoryx2_world.specs.World.{World, Tickets, phase_of, locked_number, ticket_of, count_of}
 use Rattle.iceoryx2_world.specs.Sets.{FinSet}
@@ -28,7 +28,7 @@ use Rattle.iceoryx2_world.specs.Standing.{ticket_for, Stands, Spares}
 use Rattle.iceoryx2_world.specs.Interference.{Rely, Others, After, IsAccessUnder, IsFallibleUnder}
 use Rattle.iceoryx2_world.specs.Interference.{SameTickets, SameTags, everyone}
 use Rattle.iceoryx2_world.specs.declared.batches.Step.{Step}
-use Rattle.iceoryx2_world.specs.Batches.{effect, may_starve, IsPeerStep, IsBatch}
+use Rattle.iceoryx2_world.specs.Batches.{effect, act_of, NeedsNoRoom, IsPeerStep, IsBatch}
 use Rattle.iceoryx2_world.specs.Tables.{TableState, IsTableAccess}
 
 -- ---- steps
@@ -176,7 +176,7 @@ abbrev pub CountsSkipped : (s t : TableState) → List Letter → Type 0
 CountsSkipped s t word = Run (MayRefuse IsTableAccess) s word t → s.skipped ≤ last_number
     → (s.skipped ≤ t.skipped) × (t.skipped ≤ last_number)
 
--- A step that keeps nothing new is never skipped: where it is allowed it has its effect.
+-- A step that needs no room is never skipped: where it is allowed it has its effect, and else nothing changes.
 abbrev pub HasItsEffect : Type 0
 HasItsEffect = (s t : World × ℕ) (x : Step)
-    → may_starve s.0 x ≡ false → IsPeerStep s x t → t ≡ (unwrap_or (effect s.0 x) s.0, s.1)
+    → NeedsNoRoom (act_of x.act) (phase_of s.0 (Peer x.peer) x.hash) → IsPeerStep s x t → t ≡ (unwrap_or (effect s.0 x) s.0, s.1)

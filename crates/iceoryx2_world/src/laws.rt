@@ -162,7 +162,7 @@ pub fn batches()
     // The count of skipped steps never falls, and stops at the last number.
     ensures counts { (s t : TableState) (word : List Letter) → CountsSkipped s t word }
 
-    // A step that keeps nothing new is never skipped: where it is allowed it has its effect. Such is each that takes
-    // something away, reads once more or joins once more.
+    // A step that needs no room is never skipped: `RemoveSegment`, `RemoveDescription`, `Leave`, a peer's `Read` when it
+    // has read, and its `Join` when it has joined (`NeedsNoRoom`). If it is allowed it has its effect.
     ensures sure { HasItsEffect }
 {}
