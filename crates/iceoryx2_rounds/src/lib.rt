@@ -27,3 +27,5 @@ pub mod pattern;
 pub mod port_factory;
 pub mod retries;
 pub mod verdict;
+
+pub use iceoryx2_errors::error;
