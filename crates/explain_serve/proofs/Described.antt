@@ -3,7 +3,7 @@ use Rattle.std.proofs.Common.{◌≡◌, ℕ, List, [], ◌++◌, Option, Some, 
 use Rattle.std.specs.declared.alloc.AllocError.{AllocError}
 use Rattle.iceoryx2_description.specs.Description.{Description}
 use Rattle.iceoryx2_testing.specs.Trace.{TracedState}
-use Rattle.iceoryx2_world.specs.declared.listing.ListedService.{ListedService}
+use Rattle.iceoryx2_world.specs.declared.listing.Entry.{Entry}
 use Rattle.iceoryx2_world.specs.Listing.{Lists}
 use Rattle.iceoryx2_world.specs.World.{World}
 use Rattle.iceoryx2_commands.specs.declared.command.Call.{Call}
@@ -20,7 +20,7 @@ use Rattle.explain_serve.specs.Explained.{found_lines, IsFoundText, IsCallLine, 
 
 -- ---- the service that was found
 
-module _ (call : Call) (refused : Refusal) (w : World) (entries : List ListedService) (lists : Lists w entries) (found : Option Description) (is_found : IsFound call entries found) where
+module _ (call : Call) (refused : Refusal) (w : World) (entries : List Entry) (lists : Lists w entries) (found : Option Description) (is_found : IsFound call entries found) where
   pub found_described : (d : Description) (old new : List ℕ) → found ≡ Some d → (done : Result (Unit {0}) AllocError) → OnOk done (new ≡ old ++ offer_lines call refused d)
       → OnOk done (GrowsBy (IsFoundText call refused w) old new)
   found_described d old new is (Ok done) grown = (

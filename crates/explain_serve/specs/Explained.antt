@@ -2,7 +2,7 @@
 use Rattle.std.specs.Prelude.{◌≡◌, ℕ, List, [], ◌++◌, Option, Some, None}
 use Rattle.iceoryx2_description.specs.Description.{Description}
 use Rattle.iceoryx2_testing.specs.Trace.{TracedState}
-use Rattle.iceoryx2_world.specs.declared.listing.ListedService.{ListedService}
+use Rattle.iceoryx2_world.specs.declared.listing.Entry.{Entry}
 use Rattle.iceoryx2_world.specs.Listing.{Lists}
 use Rattle.iceoryx2_world.specs.World.{World}
 use Rattle.iceoryx2_commands.specs.declared.command.Call.{Call}
@@ -34,7 +34,7 @@ found_lines call refused (Some d) = offer_lines call refused d
 
 -- What a refused call required, and what is offered by the service of its name and pattern in this world.
 pub record IsFoundText (call : Call) (refused : Refusal) (w : World) (text : List ℕ) : Type 0 where
-  pub entries : List ListedService
+  pub entries : List Entry
   pub lists : Lists w entries
   pub found : Option Description
   pub is_found : IsFound call entries found

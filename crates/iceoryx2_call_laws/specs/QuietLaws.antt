@@ -3,7 +3,7 @@ use Rattle.std.specs.Prelude.{◌≡◌, ◌≢◌, ◌↔◌, ℕ, ◌+◌, ◌
 use Rattle.std.specs.Prelude.{Result, Ok, Err, IfOk}
 use Rattle.std.specs.FinMap as map
 use Rattle.iceoryx2_description.specs.declared.description.ServiceHash.{ServiceHash}
-use Rattle.iceoryx2_world.specs.declared.listing.ListedService.{ListedService}
+use Rattle.iceoryx2_world.specs.declared.listing.Entry.{Entry}
 use Rattle.iceoryx2_world.specs.declared.world.Participant.TheVariants.{Node}
 use Rattle.iceoryx2_world.specs.declared.world.Ticket.{Ticket}
 use Rattle.iceoryx2_world.specs.World.{World, empty_world, row_of, segment_of, phase_of, tag_of, join_count}
@@ -166,7 +166,7 @@ NothingWithoutTicket = (w : World) (q : Quiet)
 
 -- Its services are listed, and nothing else.
 abbrev pub ListsItsServices : Type 0
-ListsItsServices = (w : World) (q : Quiet) (entries : List ListedService) → Shows w q → Lists w entries
+ListsItsServices = (w : World) (q : Quiet) (entries : List Entry) → Shows w q → Lists w entries
     → entries ≡ listing q
 
 module _ {D E C : Type 0} (c : BuilderCall D E C) where

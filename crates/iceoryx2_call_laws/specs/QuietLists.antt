@@ -5,10 +5,10 @@ use Rattle.iceoryx2_description.specs.declared.description.ServiceHash.{ServiceH
 use Rattle.iceoryx2_description.specs.Description.{max_nodes_of}
 use Rattle.iceoryx2_byte_form.specs.Form as form
 use Rattle.iceoryx2_world.specs.declared.listing.ListedRow.TheVariants as listed
-use Rattle.iceoryx2_world.specs.declared.listing.ListedService.{ListedService}
+use Rattle.iceoryx2_world.specs.declared.listing.Entry.{Entry}
 use Rattle.iceoryx2_call_laws.specs.Quiet.{QuietService, Quiet}
 
-abbrev pub listed_service : ServiceHash → QuietService → ListedService
+abbrev pub listed_service : ServiceHash → QuietService → Entry
 listed_service h x = record {
   hash = h;
   row = listed.Published x.number (form.description x.description);
@@ -21,5 +21,5 @@ listed_service h x = record {
 }
 
 -- each service, ascending by hash
-abbrev pub listing : Quiet → List ListedService
+abbrev pub listing : Quiet → List Entry
 listing q = map (λ e. listed_service e.0 e.1) (finite.entries q.services)

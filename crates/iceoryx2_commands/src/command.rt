@@ -13,7 +13,7 @@ use iceoryx2_errors::error::{
 pub use iceoryx2_event_builder::event::EventSetter;
 pub use iceoryx2_publish_subscribe_builder::publish_subscribe::PublishSubscribeSetter;
 pub use iceoryx2_request_response_builder::request_response::RequestResponseSetter;
-use iceoryx2_world::listing::ListedService;
+use iceoryx2_world::listing::Entry;
 
 /// How many slots a session has.
 pub const SLOTS: usize = 64;
@@ -99,7 +99,7 @@ pub enum Reply {
     /// There are only the slots 0 to 63.
     NoSuchSlot,
     /// Each service with a row or a segment, in the order of the hashes' bytes.
-    Listing(Vec<ListedService>),
+    Listing(Vec<Entry>),
     /// There was no memory for the listing.
     OutOfMemory,
 }

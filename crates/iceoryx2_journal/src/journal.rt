@@ -77,7 +77,7 @@ impl<L> Journal<L> {
 
     /// Each service with a row or a segment, as far as the log has been taken over, in the order of the hashes' bytes.
     /// Once the journal is over it is what its world was then.
-    pub fn list(&self) -> Result<Vec<listing::ListedService>, AllocError>
+    pub fn list(&self) -> Result<Vec<listing::Entry>, AllocError>
         ensures { IfOk result (λ entries. Lists self.now.world entries.items) }
     {
         self.world.list()

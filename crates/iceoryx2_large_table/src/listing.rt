@@ -9,13 +9,13 @@ use finite_map::entry_at;
 use iceoryx2_table::merge::push;
 use iceoryx2_table::rows::StoredRow;
 use iceoryx2_table::segments::StoredSegment;
-use iceoryx2_world::listing::ListedService;
+use iceoryx2_world::listing::Entry;
 use std::alloc::{AllocError, Global};
 use std::cmp::Ordering;
 
 // Adds the next entry, and tells how many rows and segments are listed then.
 fn push_next(
-    entries: &mut Vec<ListedService>,
+    entries: &mut Vec<Entry>,
     rows: &[(&ServiceKey, &StoredRow)],
     segments: &[(&ServiceKey, &StoredSegment)],
     row: usize,
@@ -59,7 +59,7 @@ pub fn merge_entries(
     alloc: Global,
     rows: &[(&ServiceKey, &StoredRow)],
     segments: &[(&ServiceKey, &StoredSegment)],
-) -> Result<Vec<ListedService>, AllocError>
+) -> Result<Vec<Entry>, AllocError>
     ensures { IfOk result (λ entries. entries.items ≡ merge (pointed rows.now) (pointed segments.now)) }
 {
     let mut entries = Vec::new(alloc);

@@ -23,7 +23,7 @@ use iceoryx2_table::recorder::Unrecorded;
 use iceoryx2_table::rows::StoredRow;
 use iceoryx2_table::segments::StoredSegment;
 use iceoryx2_table::services::{begins, may_remove_description, without_segment};
-use iceoryx2_world::listing::ListedService;
+use iceoryx2_world::listing::Entry;
 use iceoryx2_world::world::{Participant, Phase};
 use std::alloc::{AllocError, Global};
 use std::marker::Model;
@@ -89,7 +89,7 @@ impl<M: Kinds> Services<M> {
     }
 
     /// Each hash with a row or a segment, in ascending order.
-    pub fn list(&self) -> Result<Vec<ListedService>, AllocError>
+    pub fn list(&self) -> Result<Vec<Entry>, AllocError>
         ensures { IfOk result (λ entries. ListsAll self.now.rows self.now.segments entries.items) }
     {
         let rows = self.rows.entries(self.alloc)?;

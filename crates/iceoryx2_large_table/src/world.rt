@@ -17,7 +17,7 @@ use iceoryx2_table::own_parts::OwnParts;
 use iceoryx2_table::rows::RowState;
 use iceoryx2_table::table::stored::{count_after, has_made, is_held, may_make, ticket_for};
 use iceoryx2_world::batches::Step;
-use iceoryx2_world::listing::ListedService;
+use iceoryx2_world::listing::Entry;
 use iceoryx2_world::world::{Participant, Phase};
 use std::alloc::{AllocError, Global};
 use std::marker::Model;
@@ -81,7 +81,7 @@ impl<M: Kinds> OwnParts for WorldOver<M> {
         count
     }
 
-    fn list(&self) -> Result<Vec<ListedService>, AllocError> {
+    fn list(&self) -> Result<Vec<Entry>, AllocError> {
         self.services.list()
     }
 

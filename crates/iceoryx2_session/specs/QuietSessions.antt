@@ -4,7 +4,7 @@ use Rattle.std.specs.Prelude.{IsTrue, slice_set}
 use Rattle.std.specs.declared.alloc.Global.{Global}
 use Rattle.iceoryx2_description.specs.declared.description.ServiceHash.{ServiceHash}
 use Rattle.iceoryx2_description.specs.declared.config.Config.{Config}
-use Rattle.iceoryx2_world.specs.declared.listing.ListedService.{ListedService}
+use Rattle.iceoryx2_world.specs.declared.listing.Entry.{Entry}
 use Rattle.iceoryx2_world.specs.World.{tag_of}
 use Rattle.iceoryx2_world.specs.Tables.{TableState}
 use Rattle.iceoryx2_world.specs.Across.{Agrees}
@@ -61,7 +61,7 @@ pub data Moves (config : Config) (q : Quiet) (slots : List (Option Registered))
   close_empty : {slot : ℕ} → FreeAt slots slot → Moves config q slots (command.Close slot) reply.SlotEmpty q slots
   closed : {slot : ℕ} (f : Registered) {p : Quiet} → HoldsAt slots slot f → Closes q f.node f.description.hash p
       → Moves config q slots (command.Close slot) (reply.Closed slot) p (slice_set slots slot None)
-  listed : {entries : Vec ListedService Global} → entries.items ≡ listing q
+  listed : {entries : Vec Entry Global} → entries.items ≡ listing q
       → Moves config q slots command.List (reply.Listing entries) q slots
   not_listed : Moves config q slots command.List reply.OutOfMemory q slots
 

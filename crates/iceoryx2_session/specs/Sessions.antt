@@ -3,7 +3,7 @@ use Rattle.std.specs.Prelude.{◌≡◌, ◌≤◌, ℕ, Bool, List, Vec, Option
 use Rattle.std.specs.Prelude.{slice_get, slice_set}
 use Rattle.std.specs.declared.alloc.Global.{Global}
 use Rattle.iceoryx2_description.specs.declared.config.Config.{Config}
-use Rattle.iceoryx2_world.specs.declared.listing.ListedService.{ListedService}
+use Rattle.iceoryx2_world.specs.declared.listing.Entry.{Entry}
 use Rattle.iceoryx2_world.specs.Interference.{IsFallibleUnder}
 use Rattle.iceoryx2_world.specs.Listing.{Lists}
 use Rattle.iceoryx2_world.specs.Tables.{TableState, IsTableAccess}
@@ -133,7 +133,7 @@ pub data AppliesBy {S : Type 0} (step : S → Letter → S → Type 0) (world : 
       (record old { table = t; slots = slice_set old.slots slot None })
   not_closed : {slot : ℕ} (f : Registered) {t : S} → HoldsAt old.slots slot f → HandsBackBy step old.table f t
       → AppliesBy step world old (command.Close slot) (reply.NotClosed slot) (record old { table = t })
-  listed : {entries : Vec ListedService Global} → Lists (world old.table) entries.items
+  listed : {entries : Vec Entry Global} → Lists (world old.table) entries.items
       → AppliesBy step world old command.List (reply.Listing entries) old
   not_listed : AppliesBy step world old command.List reply.OutOfMemory old
 

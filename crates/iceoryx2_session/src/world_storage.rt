@@ -14,7 +14,7 @@ use iceoryx2_log::log::Log;
 use iceoryx2_table::own_parts::OwnParts;
 use iceoryx2_table::table::TableOver;
 use iceoryx2_testing::traced::Traced;
-use iceoryx2_world::listing::ListedService;
+use iceoryx2_world::listing::Entry;
 use std::alloc::AllocError;
 
 /// A storage that shows a world, with nodes of its own. Each of its accesses is one of that world, after what others
@@ -43,7 +43,7 @@ pub trait WorldStorage: Storage {
 
     /// Each service of the world with a row or a segment, in the order of the hashes' bytes. Makes no access.
     /// `AllocError` where there was no memory for the list.
-    fn list(&self) -> Result<Vec<ListedService>, AllocError>
+    fn list(&self) -> Result<Vec<Entry>, AllocError>
         ensures { IfOk result (λ entries. Lists (world self.now) entries.items) };
 
     /// That each access is one of the world, whatever others do before it, or is refused then.
@@ -80,7 +80,7 @@ impl<W: OwnParts> WorldStorage for TableOver<W> {
         Err(CleanError::IsOwn)
     }
 
-    fn list(&self) -> Result<Vec<ListedService>, AllocError> {
+    fn list(&self) -> Result<Vec<Entry>, AllocError> {
         TableOver::list(self)
     }
 }
@@ -107,7 +107,7 @@ impl<L: Log> WorldStorage for Journal<L> {
         Journal::clean(self, node)
     }
 
-    fn list(&self) -> Result<Vec<ListedService>, AllocError> {
+    fn list(&self) -> Result<Vec<Entry>, AllocError> {
         Journal::list(self)
     }
 }
@@ -130,7 +130,7 @@ impl<S: WorldStorage> WorldStorage for Traced<S> {
         self.inner_mut().clean(node)
     }
 
-    fn list(&self) -> Result<Vec<ListedService>, AllocError> {
+    fn list(&self) -> Result<Vec<Entry>, AllocError> {
         self.inner().list()
     }
 }

@@ -13,5 +13,5 @@ pub use iceoryx2_table::rows::{RowState, StoredRow};
 pub use iceoryx2_table::segments::StoredSegment;
 pub use iceoryx2_table::table::{Table, TableOver};
 pub use iceoryx2_world::batches::{Act, Step};
-pub use iceoryx2_world::listing::{ListedRow, ListedSegment, ListedService};
+pub use iceoryx2_world::listing::{Entry, ListedRow, ListedSegment};
 pub use iceoryx2_world::world::Bytes;

@@ -10,7 +10,7 @@ use Rattle.std.specs.declared.cmp.Ordering.{Ordering}
 use Rattle.std.specs.declared.cmp.Ordering.TheVariants.{Less, Equal, Greater}
 use Rattle.iceoryx2_description.specs.declared.description.ServiceHash.{ServiceHash}
 use Rattle.iceoryx2_world.specs.declared.world.Row.{Row}
-use Rattle.iceoryx2_world.specs.declared.listing.ListedService.{ListedService}
+use Rattle.iceoryx2_world.specs.declared.listing.Entry.{Entry}
 use Rattle.iceoryx2_world.specs.Orders.{hash_cmp, hash_total, hash_exact}
 use Rattle.iceoryx2_world.specs.World.{Segment}
 use Rattle.iceoryx2_world.specs.Listing.{entry_of, entry_at, by_hash, ListsAll}
@@ -82,7 +82,7 @@ ascends (r ∷ rs) (s ∷ ss) a b =
 found_key : (q h : ServiceHash) → eq_by_cmp hash_cmp q h ≡ true → q ≡ h
 found_key q h e = hash_exact q h ((Equal-is (hash_cmp q h)).0 e)
 
-find_row : (q : ServiceHash) (r : ServiceHash × Row) (rs : RowEntries) (ss : SegmentEntries) (found : Option ListedService) → T (below_all hash_cmp r.0 ss) → found ≡ entry_at q (find hash_cmp q rs) (find hash_cmp q ss)
+find_row : (q : ServiceHash) (r : ServiceHash × Row) (rs : RowEntries) (ss : SegmentEntries) (found : Option Entry) → T (below_all hash_cmp r.0 ss) → found ≡ entry_at q (find hash_cmp q rs) (find hash_cmp q ss)
     → cond (eq_by_cmp hash_cmp q r.0) (Some (entry_of r.0 (Some r.1) None)) found ≡ entry_at q (find hash_cmp q (r ∷ rs)) (find hash_cmp q ss)
 find_row q r rs ss found b rest =
     elim (eq_by_cmp hash_cmp q r.0) as (λ t. eq_by_cmp hash_cmp q r.0 ≡ t → cond t (Some (entry_of r.0 (Some r.1) None)) found ≡ entry_at q (cond t (Some r.1) (find hash_cmp q rs)) (find hash_cmp q ss)) [
@@ -93,7 +93,7 @@ find_row q r rs ss found b rest =
       | false ↦ λ t. rest
     ] refl
 
-find_segment : (q : ServiceHash) (s : ServiceHash × Segment) (rs : RowEntries) (ss : SegmentEntries) (found : Option ListedService) → T (below_all hash_cmp s.0 rs) → found ≡ entry_at q (find hash_cmp q rs) (find hash_cmp q ss)
+find_segment : (q : ServiceHash) (s : ServiceHash × Segment) (rs : RowEntries) (ss : SegmentEntries) (found : Option Entry) → T (below_all hash_cmp s.0 rs) → found ≡ entry_at q (find hash_cmp q rs) (find hash_cmp q ss)
     → cond (eq_by_cmp hash_cmp q s.0) (Some (entry_of s.0 None (Some s.1))) found ≡ entry_at q (find hash_cmp q rs) (find hash_cmp q (s ∷ ss))
 find_segment q s rs ss found b rest =
     elim (eq_by_cmp hash_cmp q s.0) as (λ t. eq_by_cmp hash_cmp q s.0 ≡ t → cond t (Some (entry_of s.0 None (Some s.1))) found ≡ entry_at q (find hash_cmp q rs) (cond t (Some s.1) (find hash_cmp q ss))) [
@@ -104,7 +104,7 @@ find_segment q s rs ss found b rest =
       | false ↦ λ t. rest
     ] refl
 
-find_both : (q : ServiceHash) (r : ServiceHash × Row) (s : ServiceHash × Segment) (rs : RowEntries) (ss : SegmentEntries) (found : Option ListedService) → r.0 ≡ s.0 → found ≡ entry_at q (find hash_cmp q rs) (find hash_cmp q ss)
+find_both : (q : ServiceHash) (r : ServiceHash × Row) (s : ServiceHash × Segment) (rs : RowEntries) (ss : SegmentEntries) (found : Option Entry) → r.0 ≡ s.0 → found ≡ entry_at q (find hash_cmp q rs) (find hash_cmp q ss)
     → cond (eq_by_cmp hash_cmp q r.0) (Some (entry_of r.0 (Some r.1) (Some s.1))) found ≡ entry_at q (find hash_cmp q (r ∷ rs)) (find hash_cmp q (s ∷ ss))
 find_both q r s rs ss found same rest =
     subst (λ h. cond (eq_by_cmp hash_cmp q r.0) (Some (entry_of r.0 (Some r.1) (Some s.1))) found ≡ entry_at q (cond (eq_by_cmp hash_cmp q r.0) (Some r.1) (find hash_cmp q rs)) (cond (eq_by_cmp hash_cmp q h) (Some s.1) (find hash_cmp q ss))) same
@@ -142,10 +142,10 @@ lists rows segments = record {
 at_place : {X : Type 0} (xs : List X) (i : ℕ) (x : X) → i < length xs → x ≡ get_or xs i x → drop i xs ≡ x ∷ drop (i + 1) xs
 at_place xs i x lt is = drop_more xs i x lt ∙ ap (λ y. y ∷ drop (i + 1) xs) (sym is)
 
-grown : (es fs more : List ListedService) (e : ListedService) → fs ≡ es ++ e ∷ [] → fs ++ more ≡ es ++ (e ∷ more)
+grown : (es fs more : List Entry) (e : Entry) → fs ≡ es ++ e ∷ [] → fs ++ more ≡ es ++ (e ∷ more)
 grown es fs more e is = ap (λ l. l ++ more) is ∙ append_assoc es (e ∷ []) more
 
-walked : (rs : RowEntries) (ss : SegmentEntries) (i j m n : ℕ) (es fs : List ListedService) (e : ListedService) → fs ≡ es ++ e ∷ [] → merge (drop i rs) (drop j ss) ≡ e ∷ merge (drop m rs) (drop n ss)
+walked : (rs : RowEntries) (ss : SegmentEntries) (i j m n : ℕ) (es fs : List Entry) (e : Entry) → fs ≡ es ++ e ∷ [] → merge (drop i rs) (drop j ss) ≡ e ∷ merge (drop m rs) (drop n ss)
     → m ≤ length rs → n ≤ length ss → i + j < m + n → Advances rs ss (i, j) es (m, n) fs
 walked rs ss i j m n es fs e grows next rows segments more = record {
   same = grown es fs _ e grows ∙ ap (λ l. es ++ l) (sym next);
@@ -178,7 +178,7 @@ past [] (suc i) le = refl
 past (x ∷ xs) zero le = absurd (omega arith)
 past (x ∷ xs) (suc i) le = past xs i (omega arith)
 
-module _ (rs : RowEntries) (ss : SegmentEntries) (i j : ℕ) (es fs : List ListedService) where
+module _ (rs : RowEntries) (ss : SegmentEntries) (i j : ℕ) (es fs : List Entry) where
   pub only_row : (r : ServiceHash × Row) → i < length rs → r ≡ get_or rs i r → j ≡ length ss → fs ≡ es ++ entry_of r.0 (Some r.1) None ∷ [] → Advances rs ss (i, j) es (i + 1, j) fs
   only_row r lt is end grows =
       let none = past ss j (omega arith) in
@@ -218,6 +218,6 @@ unfolding merge
 merge_nothing = refl
 
 -- all is listed
-pub all_listed : (rs : RowEntries) (ss : SegmentEntries) (i j : ℕ) (es : List ListedService) → length rs ≤ i → length ss ≤ j → es ++ merge (drop i rs) (drop j ss) ≡ merge rs ss → es ≡ merge rs ss
+pub all_listed : (rs : RowEntries) (ss : SegmentEntries) (i j : ℕ) (es : List Entry) → length rs ≤ i → length ss ≤ j → es ++ merge (drop i rs) (drop j ss) ≡ merge rs ss → es ≡ merge rs ss
 all_listed rs ss i j es lr ls is =
     sym (append-nil es) ∙ ap (λ l. es ++ l) (sym ((λ k. merge (past rs i lr k) (past ss j ls k)) ∙ merge_nothing)) ∙ is

@@ -8,7 +8,7 @@ ghost use Rattle.iceoryx2_world.specs.Listing.{entry_of, listed_row as listed_ro
 use crate::rows::{RowState, StoredRow};
 use crate::segments::StoredSegment;
 use iceoryx2_description::description::ServiceHash;
-use iceoryx2_world::listing::{ListedRow, ListedService};
+use iceoryx2_world::listing::{Entry, ListedRow};
 use iceoryx2_world::world::Bytes;
 use std::alloc::{AllocError, Global};
 use std::cmp::Ordering;
@@ -31,7 +31,7 @@ fn listed_row(row: Option<&StoredRow>) -> Result<ListedRow, AllocError>
 
 /// Adds what is listed of a hash.
 pub fn push(
-    entries: &mut Vec<ListedService>,
+    entries: &mut Vec<Entry>,
     hash: &ServiceHash,
     row: Option<&StoredRow>,
     segment: Option<&StoredSegment>,
@@ -44,7 +44,7 @@ pub fn push(
         Some(segment) => Some(segment.to_listed()),
         None => None,
     };
-    let entry = ListedService {
+    let entry = Entry {
         hash: *hash,
         row,
         segment,
@@ -55,7 +55,7 @@ pub fn push(
 
 // Adds the next entry, and tells how many rows and segments are listed then.
 fn push_next(
-    entries: &mut Vec<ListedService>,
+    entries: &mut Vec<Entry>,
     rows: &[(ServiceHash, StoredRow)],
     segments: &[(ServiceHash, StoredSegment)],
     row: usize,
@@ -99,7 +99,7 @@ pub fn merge_entries(
     alloc: Global,
     rows: &[(ServiceHash, StoredRow)],
     segments: &[(ServiceHash, StoredSegment)],
-) -> Result<Vec<ListedService>, AllocError>
+) -> Result<Vec<Entry>, AllocError>
     ensures { IfOk result (λ entries. entries.items ≡ merge rows.now segments.now) }
 {
     let mut entries = Vec::new(alloc);

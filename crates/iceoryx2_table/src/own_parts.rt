@@ -14,7 +14,7 @@ use iceoryx2_access::storage::{
 };
 use iceoryx2_description::description::{ServiceHash, StaticConfig};
 use iceoryx2_world::batches::Step;
-use iceoryx2_world::listing::ListedService;
+use iceoryx2_world::listing::Entry;
 use std::alloc::{AllocError, Global};
 
 /// What keeps a world, with the own part of each of the twelve accesses of a node.
@@ -37,7 +37,7 @@ pub trait OwnParts: Sized {
         ensures { IsBatch (world self.old, skipped) batch.now (world self.new, result) };
 
     /// Each service with a row or a segment, in the order of the hashes' bytes.
-    fn list(&self) -> Result<Vec<ListedService>, AllocError>
+    fn list(&self) -> Result<Vec<Entry>, AllocError>
         ensures { IfOk result (λ entries. Lists (world self.now) entries.items) };
 
     /// Whether the node has a tag for the service.

@@ -25,7 +25,7 @@ use crate::segments::StoredSegment;
 use iceoryx2_access::storage::{OpenSegmentError, Release};
 use iceoryx2_byte_form::bytes::encode;
 use iceoryx2_description::description::{ServiceHash, StaticConfig};
-use iceoryx2_world::listing::ListedService;
+use iceoryx2_world::listing::Entry;
 use iceoryx2_world::world::{Participant, Phase};
 use sorted_map::{Place, SortedVec};
 use std::alloc::{AllocError, Global};
@@ -151,7 +151,7 @@ impl Services {
     }
 
     /// Each hash with a row or a segment, in ascending order.
-    pub fn list(&self) -> Result<Vec<ListedService>, AllocError>
+    pub fn list(&self) -> Result<Vec<Entry>, AllocError>
         ensures { IfOk result (λ entries. ListsAll self.now.rows self.now.segments entries.items) }
     {
         merge_entries(

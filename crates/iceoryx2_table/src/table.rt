@@ -16,7 +16,7 @@ use iceoryx2_access::storage::{
 };
 use iceoryx2_description::description::{ServiceHash, StaticConfig};
 pub use iceoryx2_world::batches::{Act, Step};
-use iceoryx2_world::listing::ListedService;
+use iceoryx2_world::listing::Entry;
 use std::alloc::{AllocError, Global};
 use std::marker::Model;
 
@@ -131,7 +131,7 @@ impl<W: OwnParts> TableOver<W> {
     }
 
     /// Each service with a row or a segment, in the order of the hashes' bytes.
-    pub fn list(&self) -> Result<Vec<ListedService>, AllocError>
+    pub fn list(&self) -> Result<Vec<Entry>, AllocError>
         ensures { IfOk result (λ entries. Lists self.now.world entries.items) }
     {
         self.world.list()

@@ -9,7 +9,7 @@ use Rattle.iceoryx2_world.specs.declared.world.Row.TheVariants as row
 use Rattle.iceoryx2_world.specs.declared.listing.ListedRow.{ListedRow}
 use Rattle.iceoryx2_world.specs.declared.listing.ListedRow.TheVariants as listed
 use Rattle.iceoryx2_world.specs.declared.listing.ListedSegment.{ListedSegment}
-use Rattle.iceoryx2_world.specs.declared.listing.ListedService.{ListedService}
+use Rattle.iceoryx2_world.specs.declared.listing.Entry.{Entry}
 use Rattle.iceoryx2_world.specs.Sets as set
 use Rattle.iceoryx2_world.specs.Orders.{hash_cmp}
 use Rattle.iceoryx2_world.specs.World.{World, Segment}
@@ -28,23 +28,23 @@ listed_segment s = record {
 }
 
 -- what is listed of a row and a segment; nothing where there is neither
-abbrev pub entry_of : ServiceHash → Option Row → Option Segment → ListedService
+abbrev pub entry_of : ServiceHash → Option Row → Option Segment → Entry
 entry_of h r s = record { hash = h; row = listed_row r; segment = option_map listed_segment s }
 
-abbrev pub entry_at : ServiceHash → Option Row → Option Segment → Option ListedService
+abbrev pub entry_at : ServiceHash → Option Row → Option Segment → Option Entry
 entry_at h None None = None
 entry_at h (Some r) s = Some (entry_of h (Some r) s)
 entry_at h None (Some s) = Some (entry_of h None (Some s))
 
-abbrev pub by_hash : List ListedService → List (ServiceHash × ListedService)
+abbrev pub by_hash : List Entry → List (ServiceHash × Entry)
 by_hash es = map (λ e. (e.hash, e)) es
 
 -- Every hash with a row or a segment is listed once, in ascending order, with what stands there, and no other hash.
 pub record ListsAll (rows : finite.FinMap hash_cmp Row) (segments : finite.FinMap hash_cmp Segment)
-    (es : List ListedService) : Type 0 where
+    (es : List Entry) : Type 0 where
   pub ascends : T (is_sorted hash_cmp (by_hash es))
   pub each : (h : ServiceHash)
       → find hash_cmp h (by_hash es) ≡ entry_at h (finite.get rows h) (finite.get segments h)
 
-abbrev pub Lists : World → List ListedService → Type 0
+abbrev pub Lists : World → List Entry → Type 0
 Lists w es = ListsAll w.rows w.segments es

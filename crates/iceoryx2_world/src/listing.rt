@@ -27,7 +27,7 @@ pub struct ListedSegment {
 
 /// What there is of one service.
 #[derive(Debug, Drop, PartialEq, Eq)]
-pub struct ListedService {
+pub struct Entry {
     pub hash: ServiceHash,
     pub row: ListedRow,
     pub segment: Option<ListedSegment>,

@@ -113,7 +113,7 @@ fn whole_run(
     alloc: Global,
     subject: Subject,
     calls: &[(u64, How)],
-) -> (Vec<Entry>, Vec<listing::ListedService>) {
+) -> (Vec<Entry>, Vec<listing::Entry>) {
     let mut table = Recording::new(alloc, Vec::new(alloc));
     let mut places = granted(rt, Places::new(alloc));
     for &each in calls {
@@ -136,7 +136,7 @@ type Answers = (
 );
 
 /// That, all entries then, those of the cleaner, and what is listed.
-type Seen = (Answers, Vec<Entry>, Vec<Entry>, Vec<listing::ListedService>);
+type Seen = (Answers, Vec<Entry>, Vec<Entry>, Vec<listing::Entry>);
 
 /// What is seen of cleaning over these entries, where an append is refused: by its number, and 0 where none is.
 fn seen(rt: &impl Abort, alloc: Global, entries: Vec<Entry>, refused: u64) -> Seen {
@@ -178,7 +178,7 @@ fn cleaned(
     alloc: Global,
     subject: Subject,
     entries: Vec<Entry>,
-    ((releases, removals), left): (Counts, &[listing::ListedService]),
+    ((releases, removals), left): (Counts, &[listing::Entry]),
 ) -> Vec<Entry> {
     let (answers, entries, appended, listing) = seen(rt, alloc, entries, 0);
     let wanted = Cleaned { releases, removals };

@@ -63,7 +63,7 @@ fn started(rt: &impl Abort, alloc: Global, list: &List, of: &[usize]) -> Vec<Pro
 }
 
 /// Whether this is listed as the row of this hash.
-fn has_row(listing: &[listing::ListedService], hash: &ServiceHash, row: &ListedRow) -> bool {
+fn has_row(listing: &[listing::Entry], hash: &ServiceHash, row: &ListedRow) -> bool {
     for entry in listing {
         if entry.hash == *hash {
             return entry.row == *row;
@@ -73,12 +73,7 @@ fn has_row(listing: &[listing::ListedService], hash: &ServiceHash, row: &ListedR
 }
 
 /// Ends a test where a factory of a place carries something else than what is listed of its service.
-fn assert_standing(
-    rt: &impl Abort,
-    alloc: Global,
-    places: &Places,
-    listing: &[listing::ListedService],
-) {
+fn assert_standing(rt: &impl Abort, alloc: Global, places: &Places, listing: &[listing::Entry]) {
     for slot in 0..4 {
         if let Some((number, description)) = places.factory(slot) {
             let bytes = Bytes::from_vec(granted(rt, encode(alloc, description)));

@@ -40,8 +40,8 @@ type Replies = (Reply, Reply, Reply);
 /// That, what is listed after the call and in the end, and all entries.
 type Seen = (
     Replies,
-    Vec<listing::ListedService>,
-    Vec<listing::ListedService>,
+    Vec<listing::Entry>,
+    Vec<listing::Entry>,
     Vec<Entry>,
 );
 
@@ -122,7 +122,7 @@ fn seen(
     alloc: Global,
     case: Case,
     (access, append, hold): (u64, u64, u64),
-) -> (Replies, Vec<listing::ListedService>, Accesses) {
+) -> (Replies, Vec<listing::Entry>, Accesses) {
     let (wanted, accesses, mut log) = wanted(rt, alloc, case, access);
     log.set_refused(granted(rt, [append].to_vec(alloc)));
     log.set_busy(granted(rt, [hold].to_vec(alloc)));

@@ -111,7 +111,7 @@ fn drawn_commands(rt: &impl Abort, alloc: Global, mut seed: u64) -> Vec<Command>
 }
 
 /// What a command is answered, and what is listed then.
-type Seen = (Reply, Vec<listing::ListedService>);
+type Seen = (Reply, Vec<listing::Entry>);
 
 /// What is seen of commands over the plain table.
 fn wanted(

@@ -218,11 +218,7 @@ pub fn journal_of(rt: &impl Abort, alloc: Global, log: MemoryLog) -> Journal<Mem
 }
 
 /// What a process with no node of its own lists that has these entries.
-pub fn listed_anew(
-    rt: &impl Abort,
-    alloc: Global,
-    entries: Vec<Entry>,
-) -> Vec<listing::ListedService> {
+pub fn listed_anew(rt: &impl Abort, alloc: Global, entries: Vec<Entry>) -> Vec<listing::Entry> {
     let log = MemoryLog::from_entries(alloc, entries, 0);
     let mut journal = Journal::starting_at(alloc, log, Vec::new(alloc), 0);
     journal.refresh();

@@ -63,7 +63,7 @@ fn entries_of_others(alloc: Global, pattern: Pattern) -> Result<Vec<Entry>, Wron
 }
 
 /// What a process lists that has these entries and memory.
-fn listed(alloc: Global, entries: Vec<Entry>) -> Result<Vec<listing::ListedService>, Wrong> {
+fn listed(alloc: Global, entries: Vec<Entry>) -> Result<Vec<listing::Entry>, Wrong> {
     let log = MemoryLog::from_entries(alloc, entries, 0);
     let mut journal = Journal::starting_at(alloc, log, Vec::new(alloc), 0);
     journal.refresh();

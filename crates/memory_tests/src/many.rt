@@ -10,7 +10,7 @@ use iceoryx2_attribute::attribute::AttributeSet;
 use iceoryx2_description::description::{MessagingPattern, ServiceHash, StaticConfig};
 use iceoryx2_description::event;
 use iceoryx2_large_table::table::LargeTable;
-use iceoryx2_world::listing::ListedService;
+use iceoryx2_world::listing::Entry;
 use std::alloc::Global;
 
 /// How many services are created, so many that each tree grows several times.
@@ -65,7 +65,7 @@ fn description(alloc: Global, service: u8) -> Result<StaticConfig, Wrong> {
 }
 
 /// What a table lists, the tag and the tickets of nodes 1 and 2 for a service, and the counter.
-type Seen = (Vec<ListedService>, [(bool, u64); 2], u64);
+type Seen = (Vec<Entry>, [(bool, u64); 2], u64);
 
 /// A table, and the access at a service that is made next.
 #[derive(Drop)]

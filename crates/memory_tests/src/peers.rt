@@ -15,7 +15,7 @@ use iceoryx2_description::event;
 use iceoryx2_session::session::Session;
 use iceoryx2_table::table::{Act, Step, Table};
 use iceoryx2_testing::script::Faulty;
-use iceoryx2_world::listing::{ListedRow, ListedSegment, ListedService};
+use iceoryx2_world::listing::{Entry, ListedRow, ListedSegment};
 use std::alloc::Global;
 
 /// What a peer does, with a number of nodes in place of a description.
@@ -152,7 +152,7 @@ pub fn skip(alloc: Global) -> Result<Tally, Wrong> {
 type Contents = Option<(u64, Option<(u64, u64)>)>;
 
 /// What is listed of the only service.
-fn contents(entries: &[ListedService]) -> Contents {
+fn contents(entries: &[Entry]) -> Contents {
     let entry = entries.first()?;
     let number = match entry.row {
         ListedRow::Published(number, _) => number,

@@ -4,14 +4,14 @@ use crate::samples::{self, PATTERNS, prepared};
 use crate::trial::Wrong;
 use iceoryx2_description::description::ServiceHash;
 use iceoryx2_table::table::Table;
-use iceoryx2_world::listing::ListedService;
+use iceoryx2_world::listing::Entry;
 use std::alloc::Global;
 
 /// What a table lists, the tags and tickets of nodes 1 and 2 for the services that are called for, how
 /// many batches wait, how many steps were skipped, and the counter.
 #[derive(Drop, PartialEq, Eq)]
 pub struct Seen {
-    entries: Vec<ListedService>,
+    entries: Vec<Entry>,
     holdings: Vec<(bool, u64)>,
     pending: usize,
     skipped: u64,

@@ -4,12 +4,12 @@ use Rattle.std.proofs.lemmas.List.{take_all}
 use Rattle.std.proofs.lemmas.List.Elements.{All-more}
 use Rattle.iceoryx2_description.specs.Description.{Description}
 use Rattle.iceoryx2_byte_form.specs.Form.{IsForm}
-use Rattle.iceoryx2_world.specs.declared.listing.ListedService.{ListedService}
+use Rattle.iceoryx2_world.specs.declared.listing.Entry.{Entry}
 use Rattle.iceoryx2_world.specs.declared.listing.ListedRow.TheVariants as listed
 use Rattle.iceoryx2_commands.specs.declared.command.Call.{Call}
 use Rattle.negotiate_explain.specs.Standing.{is_asked_for, IsServiceAt, IsFoundAt}
 
-module _ (call : Call) (e : ListedService) (number : ℕ) (bytes : List ℕ) (d : Description) (row : e.row ≡ listed.Published number bytes) (form : IsForm d bytes) (only : (other : Description) → IsForm other bytes → d ≡ other) where
+module _ (call : Call) (e : Entry) (number : ℕ) (bytes : List ℕ) (d : Description) (row : e.row ≡ listed.Published number bytes) (form : IsForm d bytes) (only : (other : Description) → IsForm other bytes → d ≡ other) where
   -- there is no other description of the same bytes
   same_service : (other : Description) → IsServiceAt call e other → d ≡ other
   same_service other s =
@@ -25,11 +25,11 @@ module _ (call : Call) (e : ListedService) (number : ℕ) (bytes : List ℕ) (d 
   found_at r is = subst (λ x. IsFoundAt call e x) (sym is) (decided (is_asked_for call d) refl)
 
 -- at none of the entries so far, nor at the next one
-pub none_more : (call : Call) (entries : List ListedService) (i : ℕ) (e : ListedService) (r : Option Description) → i < length entries → e ≡ get_or entries i e
+pub none_more : (call : Call) (entries : List Entry) (i : ℕ) (e : Entry) (r : Option Description) → i < length entries → e ≡ get_or entries i e
     → IsFoundAt call e r → r ≡ None → All (λ x. IsFoundAt call x None) (take i entries) → All (λ x. IsFoundAt call x None) (take (i + 1) entries)
 none_more call entries i e r within is found none before =
     All-more (λ x. IsFoundAt call x None) entries i e within before
     (subst (λ x. IsFoundAt call x None) is (subst (λ o. IsFoundAt call e o) none found))
 
-pub none_of_all : (call : Call) (entries : List ListedService) (i : ℕ) → length entries ≤ i → All (λ x. IsFoundAt call x None) (take i entries) → All (λ x. IsFoundAt call x None) entries
+pub none_of_all : (call : Call) (entries : List Entry) (i : ℕ) → length entries ≤ i → All (λ x. IsFoundAt call x None) (take i entries) → All (λ x. IsFoundAt call x None) entries
 none_of_all call entries i ends before = subst (λ xs. All (λ x. IsFoundAt call x None) xs) (take_all i entries ends) before

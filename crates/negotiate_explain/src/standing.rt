@@ -6,14 +6,14 @@ ghost use Rattle.negotiate_explain.specs.Standing.{IsFound, IsFoundAt, is_asked_
 use iceoryx2_byte_form::bytes::{DecodeError, decode};
 use iceoryx2_commands::command::{Call, Settings};
 use iceoryx2_description::description::{MessagingPattern, StaticConfig};
-use iceoryx2_world::listing::{ListedRow, ListedService};
+use iceoryx2_world::listing::{Entry, ListedRow};
 use std::alloc::{AllocError, Global};
 
 /// The description of the service of the call's name and pattern among those that are listed, or none
 /// where none is published. `AllocError` where there was no memory for it.
 pub fn service_of(
     alloc: Global,
-    entries: &[ListedService],
+    entries: &[Entry],
     call: &Call,
 ) -> Result<Option<StaticConfig>, AllocError>
     ensures { IfOk result (IsFound call.entry.now entries.now) }
@@ -28,11 +28,7 @@ pub fn service_of(
 }
 
 /// The description that is published here, where it is of the call's name and pattern.
-fn service_at(
-    alloc: Global,
-    entry: &ListedService,
-    call: &Call,
-) -> Result<Option<StaticConfig>, AllocError>
+fn service_at(alloc: Global, entry: &Entry, call: &Call) -> Result<Option<StaticConfig>, AllocError>
     ensures { IfOk result (IsFoundAt call.entry.now entry.now) }
 {
     let ListedRow::Published(_, bytes) = &entry.row else {

@@ -8,7 +8,7 @@ use Rattle.iceoryx2_description.specs.Description.{Description}
 use Rattle.iceoryx2_byte_form.specs.Form.{IsForm}
 use Rattle.iceoryx2_errors.specs.AnyError.{text_of}
 use Rattle.iceoryx2_errors.specs.AnyError as error
-use Rattle.iceoryx2_world.specs.declared.listing.ListedService.{ListedService}
+use Rattle.iceoryx2_world.specs.declared.listing.Entry.{Entry}
 use Rattle.iceoryx2_world.specs.declared.listing.ListedRow.TheVariants as listed
 use Rattle.iceoryx2_world.specs.declared.listing.ListedSegment.{ListedSegment}
 use Rattle.iceoryx2_commands.specs.declared.command.Refusal.{Refusal}
@@ -35,7 +35,7 @@ pattern_term (pattern.PublishSubscribe s) = codes "pubsub"
 pattern_term (pattern.RequestResponse s) = codes "rr"
 
 -- The entry is a service: its description is published, and its segment stands beside it.
-pub record IsService (e : ListedService) : Type 0 where
+pub record IsService (e : Entry) : Type 0 where
   pub number : ℕ
   pub bytes : List ℕ
   pub description : Description
@@ -55,19 +55,19 @@ how_many_it_has number s =
     ++ (codes "/" ++ (decimal s.max_nodes ++ codes "\n")))))
 
 -- its line
-abbrev pub service_line : (e : ListedService) → IsService e → List ℕ
+abbrev pub service_line : (e : Entry) → IsService e → List ℕ
 service_line e s = who_it_is e.hash.0 s.description ++ how_many_it_has s.number s.segment
 
 -- The lines of the services among these entries, in their order, and how many they are. What is no service has none.
-pub data AreServiceLines : List ListedService → ℕ → List ℕ → Type 0 where
+pub data AreServiceLines : List Entry → ℕ → List ℕ → Type 0 where
   none : AreServiceLines [] 0 []
-  service : {e : ListedService} {entries : List ListedService} {n : ℕ} {lines : List ℕ} (s : IsService e)
+  service : {e : Entry} {entries : List Entry} {n : ℕ} {lines : List ℕ} (s : IsService e)
       → AreServiceLines entries n lines → AreServiceLines (e ∷ entries) (n + 1) (service_line e s ++ lines)
-  other : {e : ListedService} {entries : List ListedService} {n : ℕ} {lines : List ℕ} → (IsService e → ⊥)
+  other : {e : Entry} {entries : List Entry} {n : ℕ} {lines : List ℕ} → (IsService e → ⊥)
       → AreServiceLines entries n lines → AreServiceLines (e ∷ entries) n lines
 
 -- A listing has its services line by line, and then how many they are.
-pub record ListsServices (entries : List ListedService) (text : List ℕ) : Type 0 where
+pub record ListsServices (entries : List Entry) (text : List ℕ) : Type 0 where
   pub count : ℕ
   pub lines : List ℕ
   pub services : AreServiceLines entries count lines
@@ -95,6 +95,6 @@ abbrev pub GrowsByService : Bool → (line : List ℕ) → (old new : List ℕ) 
 GrowsByService found line old new = (found ≡ true) × (new ≡ old ++ line)
 
 -- The text has grown by the entry's line where that is a service, and else it is as it was.
-abbrev pub GrowsByEntry : Bool → ListedService → (old new : List ℕ) → Type 0
+abbrev pub GrowsByEntry : Bool → Entry → (old new : List ℕ) → Type 0
 GrowsByEntry true e old new = (s : IsService e) × (new ≡ old ++ service_line e s)
 GrowsByEntry false e old new = (IsService e → ⊥) × (new ≡ old)

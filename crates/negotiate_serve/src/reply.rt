@@ -7,7 +7,7 @@ ghost use Rattle.negotiate_serve.specs.Replies.{how_many_it_has, pattern_term, w
 use iceoryx2_byte_form::bytes::{DecodeError, decode};
 use iceoryx2_commands::command::{Refusal, Reply};
 use iceoryx2_description::description::{MessagingPattern, ServiceHash, StaticConfig};
-use iceoryx2_world::listing::{ListedRow, ListedSegment, ListedService};
+use iceoryx2_world::listing::{Entry, ListedRow, ListedSegment};
 use std::alloc::AllocError;
 
 /// Writes the text of a reply to a command for this slot: a line, and for a listing a line for each
@@ -39,7 +39,7 @@ pub fn describe(reply: &Reply, slot: usize, text: &mut String) -> Result<(), All
 }
 
 /// Writes a line for each service among the entries, in their order, and how many they are.
-fn describe_services(entries: &[ListedService], text: &mut String) -> Result<(), AllocError>
+fn describe_services(entries: &[Entry], text: &mut String) -> Result<(), AllocError>
     ensures { OnOk result (GrowsBy (ListsServices entries.now) (string_bytes text.old) (string_bytes text.new)) }
 {
     let mut count = 0usize;
@@ -53,7 +53,7 @@ fn describe_services(entries: &[ListedService], text: &mut String) -> Result<(),
 
 /// Writes the line of an entry that is a service, and returns whether it is one: its description is
 /// published, and its segment stands beside it.
-fn describe_entry(entry: &ListedService, text: &mut String) -> Result<bool, AllocError>
+fn describe_entry(entry: &Entry, text: &mut String) -> Result<bool, AllocError>
     ensures { IfOk result (λ found.
         GrowsByEntry found entry.now (string_bytes text.old) (string_bytes text.new)) }
 {

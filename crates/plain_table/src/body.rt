@@ -6,7 +6,7 @@ use iceoryx2_large_table::local::ManyLocal;
 use iceoryx2_large_table::table::LargeTable;
 use iceoryx2_table::local::Local;
 use iceoryx2_table::table::{Step, Table};
-use iceoryx2_world::listing::ListedService;
+use iceoryx2_world::listing::Entry;
 use std::alloc::{AllocError, Global};
 
 /// Services that stand in a table of one of the bodies. A test is written once, over any of them. What
@@ -28,7 +28,7 @@ pub trait Body: Service {
     fn skipped(table: &Self::Storage) -> u64;
 
     /// Each service with a row or a segment, in the order of the hashes' bytes.
-    fn list(table: &Self::Storage) -> Result<Vec<ListedService>, AllocError>;
+    fn list(table: &Self::Storage) -> Result<Vec<Entry>, AllocError>;
 
     /// Whether the node has a tag for the service.
     fn has_tag(table: &Self::Storage, node: u64, hash: &ServiceHash) -> bool;
@@ -61,7 +61,7 @@ impl Body for Local {
         table.skipped()
     }
 
-    fn list(table: &Table) -> Result<Vec<ListedService>, AllocError> {
+    fn list(table: &Table) -> Result<Vec<Entry>, AllocError> {
         table.list()
     }
 
@@ -99,7 +99,7 @@ impl Body for ManyLocal {
         table.skipped()
     }
 
-    fn list(table: &LargeTable) -> Result<Vec<ListedService>, AllocError> {
+    fn list(table: &LargeTable) -> Result<Vec<Entry>, AllocError> {
         table.list()
     }
 

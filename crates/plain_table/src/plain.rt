@@ -8,7 +8,7 @@ use iceoryx2_access::storage::{
 };
 use iceoryx2_description::description::{ServiceHash, StaticConfig};
 use iceoryx2_table::table::{Act, Step};
-use iceoryx2_world::listing::ListedService;
+use iceoryx2_world::listing::Entry;
 use iceoryx2_world::world::{Participant, Phase};
 use std::alloc::{AllocError, Global};
 use std::collections::BTreeMap;
@@ -329,7 +329,7 @@ impl Body for Plain {
         table.skipped
     }
 
-    fn list(table: &PlainTable) -> Result<Vec<ListedService>, AllocError> {
+    fn list(table: &PlainTable) -> Result<Vec<Entry>, AllocError> {
         let mut entries = Vec::new(table.alloc);
         for (hash, standing) in table.services.iter() {
             if let Some(entry) = standing.listed(*hash)? {

@@ -4,7 +4,7 @@ use iceoryx2_access::storage::{Existence, FetchError, OpenSegmentError};
 use iceoryx2_byte_form::bytes::encode;
 use iceoryx2_description::description::{ServiceHash, StaticConfig};
 use iceoryx2_table::table::Act;
-use iceoryx2_world::listing::{ListedRow, ListedSegment, ListedService};
+use iceoryx2_world::listing::{Entry, ListedRow, ListedSegment};
 use iceoryx2_world::world::{Bytes, Participant, Phase, Row};
 use std::alloc::{AllocError, Global};
 use std::collections::{BTreeMap, BTreeSet};
@@ -393,7 +393,7 @@ impl Standing {
     }
 
     /// What is listed of it, where there is a row or a segment.
-    pub fn listed(&self, hash: ServiceHash) -> Result<Option<ListedService>, AllocError> {
+    pub fn listed(&self, hash: ServiceHash) -> Result<Option<Entry>, AllocError> {
         let segment = match &self.segment {
             Some(segment) => Some(segment.listed()),
             None => None,
@@ -402,6 +402,6 @@ impl Standing {
             return Ok(None);
         }
         let row = self.listed_row()?;
-        Ok(Some(ListedService { hash, row, segment }))
+        Ok(Some(Entry { hash, row, segment }))
     }
 }

@@ -7,7 +7,7 @@ use iceoryx2_errors::error::{
     EventCreateError, EventOpenError, PublishSubscribeCreateError, PublishSubscribeOpenError,
     RequestResponseCreateError, RequestResponseOpenError,
 };
-use iceoryx2_world::listing::{ListedRow, ListedSegment, ListedService};
+use iceoryx2_world::listing::{Entry, ListedRow, ListedSegment};
 use iceoryx2_world::world::Bytes;
 use negotiate_serve::reply::describe;
 use std::alloc::Global;
@@ -90,7 +90,7 @@ fn each_reply_is_one_line(rt: HostRuntime) {
 
 /// The listing of one entry with this row and a segment.
 fn listing(rt: &impl Abort, alloc: Global, row: ListedRow) -> Reply {
-    let entry = ListedService {
+    let entry = Entry {
         hash: ServiceHash([0x11; 20]),
         row,
         segment: Some(ListedSegment {

@@ -13,7 +13,7 @@ use iceoryx2_rounds::port_factory::factory::{Kind, PortFactory};
 use iceoryx2_table::local::Local;
 use iceoryx2_table::table::Table;
 use iceoryx2_types::types::TypeVariant::{Dynamic, FixedSize};
-use iceoryx2_world::listing::{ListedRow, ListedService};
+use iceoryx2_world::listing::{Entry, ListedRow};
 use std::alloc::Global;
 use std::process::Abort;
 use test_support::calls::{Calls, messages, plainly, requests};
@@ -119,7 +119,7 @@ fn factories_of_messages_tell_who_created_their_service_and_leave_a_ticket(rt: H
 fn has_published(rt: &impl Abort, table: &Table, wanted: &[u8]) -> bool {
     match entries(rt, table).as_slice() {
         [
-            ListedService {
+            Entry {
                 row: ListedRow::Published(_, bytes),
                 ..
             },

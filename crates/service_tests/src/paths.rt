@@ -28,7 +28,7 @@ use iceoryx2_service::storage::{
     Existence, FetchError, LockError, MakeSegmentError, OpenSegmentError, PublishError, Release,
     ReleaseError, RemoveError, Service, ServiceNameHasher, Sha1Hasher, Storage, Tag, TagError,
 };
-use iceoryx2_service::table::{Act, ListedService, Local, Step, Table};
+use iceoryx2_service::table::{Act, Entry, Local, Step, Table};
 use iceoryx2_service::traced::{self, Fetched, Traced, TracedService};
 use iceoryx2_service::types::{
     self, Alignment, MessageTypeDetails, Slice, TypeDetail, TypeDetailError, TypeVariant,
@@ -84,7 +84,7 @@ fn of_storages() {
         named:
         Existence, FetchError, Tag, TagError, LockError, MakeSegmentError, RemoveError,
         PublishError, OpenSegmentError, Release, ReleaseError, Script, Faulty<Table>, Sha1Hasher,
-        Answer, Step, Act, ListedService, traced::TracedAccess, Fetched
+        Answer, Step, Act, Entry, traced::TracedAccess, Fetched
     }
     each! { worldly: Table, Traced<Table> }
     each! { shown: Table, Traced<Table> }

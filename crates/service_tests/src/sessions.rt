@@ -13,7 +13,7 @@ use iceoryx2_session::table_storage::TableStorage;
 use iceoryx2_session::world_storage::WorldStorage;
 use iceoryx2_table::table::Table;
 use iceoryx2_testing::traced::Traced;
-use iceoryx2_world::listing::ListedService;
+use iceoryx2_world::listing::Entry;
 use std::alloc::Global;
 use std::process::Abort;
 use test_support::calls::command;
@@ -46,7 +46,7 @@ enum ShortReply {
 }
 
 /// For how many nodes the only service is.
-fn nodes_of(entries: &[ListedService]) -> Option<u64> {
+fn nodes_of(entries: &[Entry]) -> Option<u64> {
     match listing::only_one(entries) {
         Some((_, Some((_, max_nodes, _, _)))) => Some(max_nodes),
         _ => None,

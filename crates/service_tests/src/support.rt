@@ -4,7 +4,7 @@ use iceoryx2_access::storage::{ServiceNameHasher, Sha1Hasher};
 use iceoryx2_attribute::attribute::{AttributeSpecifier, AttributeVerifier};
 use iceoryx2_description::description::{ServiceHash, ServiceName};
 use iceoryx2_table::table::Table;
-use iceoryx2_world::listing::ListedService;
+use iceoryx2_world::listing::Entry;
 use std::alloc::Global;
 use std::fmt::Debug;
 use std::process::Abort;
@@ -91,7 +91,7 @@ pub fn verifier(alloc: Global, pairs: Pairs, keys: Keys) -> AttributeVerifier {
 }
 
 /// What a table lists.
-pub fn entries(rt: &impl Abort, table: &Table) -> Vec<ListedService> {
+pub fn entries(rt: &impl Abort, table: &Table) -> Vec<Entry> {
     granted(rt, table.list())
 }
 

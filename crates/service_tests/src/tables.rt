@@ -10,7 +10,7 @@ use iceoryx2_access::storage::{
 use iceoryx2_attribute::attribute::AttributeSet;
 use iceoryx2_description::description::{MessagingPattern, ServiceHash, StaticConfig};
 use iceoryx2_table::table::Table;
-use iceoryx2_world::listing::{ListedRow, ListedSegment, ListedService};
+use iceoryx2_world::listing::{Entry, ListedRow, ListedSegment};
 use std::alloc::Global;
 use std::process::Abort;
 use test_support::settings::events;
@@ -246,7 +246,7 @@ const THREE_LOCKS: Accesses = accesses! {
 /// What an entry has: its hash, the number of its lock, and its segment.
 type ShortEntry = (ServiceHash, Option<u64>, Option<ListedSegment>);
 
-fn short_entry(entry: &ListedService) -> ShortEntry {
+fn short_entry(entry: &Entry) -> ShortEntry {
     let number = match &entry.row {
         ListedRow::Locked(number) => Some(*number),
         _ => None,

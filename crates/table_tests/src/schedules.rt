@@ -10,7 +10,7 @@ use iceoryx2_commands::command::{Command, How, Reply, SLOTS, Settings};
 use iceoryx2_large_table::local::ManyLocal;
 use iceoryx2_table::local::Local;
 use iceoryx2_table::table::Step;
-use iceoryx2_world::listing::ListedService;
+use iceoryx2_world::listing::Entry;
 use plain_table::plain::Plain;
 use std::alloc::Global;
 use std::process::Abort;
@@ -143,7 +143,7 @@ fn drawn_command(rt: &impl Abort, alloc: Global, seed: &mut u64) -> Command {
 
 /// What a command is answered, and what a body's table lists and tells then: its counter, how many steps
 /// found no memory, and how many batches wait.
-type Seen = (Reply, Vec<ListedService>, u64, u64, usize);
+type Seen = (Reply, Vec<Entry>, u64, u64, usize);
 
 /// What is seen of a command.
 fn seen<B: Commanded>(rt: &impl Abort, commands: &mut B::Commands, command: Command) -> Seen {
@@ -160,7 +160,7 @@ fn seen<B: Commanded>(rt: &impl Abort, commands: &mut B::Commands, command: Comm
 }
 
 /// What is listed once all slots are closed, and the counter then.
-fn finished<B: Commanded>(rt: &impl Abort, commands: B::Commands) -> (Vec<ListedService>, u64) {
+fn finished<B: Commanded>(rt: &impl Abort, commands: B::Commands) -> (Vec<Entry>, u64) {
     let table = B::finish(rt, commands);
     let left = (entries(rt, B::list(&table)), B::counter(&table));
     B::let_go(table);

@@ -7,7 +7,7 @@ use iceoryx2_commands::command::{Command, How, Reply};
 use iceoryx2_description::config::Config;
 use iceoryx2_session::session::Session;
 use iceoryx2_table::local::Local;
-use iceoryx2_world::listing::ListedService;
+use iceoryx2_world::listing::Entry;
 use plain_table::body::Body;
 use plain_table::plain::Plain;
 use std::alloc::{AllocError, Global};
@@ -110,7 +110,7 @@ fn push_closed(rt: &impl Abort, replies: &mut Vec<Reply>) {
 }
 
 /// Takes away the last of the replies, which is a listing.
-fn take_listing(rt: &impl Abort, replies: &mut Vec<Reply>) -> Vec<ListedService> {
+fn take_listing(rt: &impl Abort, replies: &mut Vec<Reply>) -> Vec<Entry> {
     match replies.pop() {
         Some(Reply::Listing(entries)) => entries,
         _ => panic!(rt; "no listing"),
@@ -118,7 +118,7 @@ fn take_listing(rt: &impl Abort, replies: &mut Vec<Reply>) -> Vec<ListedService>
 }
 
 /// Whether the hashes of entries ascend strictly.
-fn ascends(entries: &[ListedService]) -> bool {
+fn ascends(entries: &[Entry]) -> bool {
     let mut last = None;
     for entry in entries {
         if last >= Some(entry.hash) {

@@ -12,7 +12,7 @@ use iceoryx2_commands::command::{
 use iceoryx2_description::config::Config;
 use iceoryx2_description::description::ServiceName;
 use iceoryx2_description::time::Time;
-use iceoryx2_world::listing::ListedService;
+use iceoryx2_world::listing::Entry;
 use std::alloc::{AllocError, Global};
 use std::fmt::Debug;
 use std::process::Abort;
@@ -40,10 +40,7 @@ pub fn push<T: Drop>(rt: &impl Abort, all: &mut Vec<T>, last: T) {
 }
 
 /// What is listed.
-pub fn entries(
-    rt: &impl Abort,
-    listing: Result<Vec<ListedService>, AllocError>,
-) -> Vec<ListedService> {
+pub fn entries(rt: &impl Abort, listing: Result<Vec<Entry>, AllocError>) -> Vec<Entry> {
     match listing {
         Ok(entries) => entries,
         Err(_) => panic!(rt; "no memory"),

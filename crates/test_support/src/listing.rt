@@ -1,7 +1,7 @@
 //! What a table lists, without hashes and bytes.
 
 use iceoryx2_description::description::ServiceHash;
-use iceoryx2_world::listing::{ListedRow, ListedSegment, ListedService};
+use iceoryx2_world::listing::{Entry, ListedRow, ListedSegment};
 
 /// What is written under a service's hash, without the bytes.
 #[derive(Clone, Copy, Debug, PartialEq, Eq)]
@@ -15,7 +15,7 @@ pub enum RowSummary {
 pub type Segment = Option<(u64, u64, u64, bool)>;
 
 /// What is listed of a row, without the bytes.
-fn row_of(entry: &ListedService) -> RowSummary {
+fn row_of(entry: &Entry) -> RowSummary {
     match entry.row {
         ListedRow::Absent => RowSummary::Absent,
         ListedRow::Locked(number) => RowSummary::Locked(number),
@@ -24,7 +24,7 @@ fn row_of(entry: &ListedService) -> RowSummary {
 }
 
 /// What is listed of a segment.
-fn segment_of(entry: &ListedService) -> Segment {
+fn segment_of(entry: &Entry) -> Segment {
     let ListedSegment {
         number,
         max_nodes,
@@ -35,7 +35,7 @@ fn segment_of(entry: &ListedService) -> Segment {
 }
 
 /// The row and the segment of the only service that is listed, or of none. Where more are listed, nothing.
-pub fn only_one(entries: &[ListedService]) -> Option<(RowSummary, Segment)> {
+pub fn only_one(entries: &[Entry]) -> Option<(RowSummary, Segment)> {
     match entries {
         [] => Some((RowSummary::Absent, None)),
         [entry] => Some((row_of(entry), segment_of(entry))),
@@ -44,7 +44,7 @@ pub fn only_one(entries: &[ListedService]) -> Option<(RowSummary, Segment)> {
 }
 
 /// The row and the segment that are listed under a hash.
-pub fn row_and_segment_of(entries: &[ListedService], hash: &ServiceHash) -> (RowSummary, Segment) {
+pub fn row_and_segment_of(entries: &[Entry], hash: &ServiceHash) -> (RowSummary, Segment) {
     for entry in entries {
         if entry.hash == *hash {
             return (row_of(entry), segment_of(entry));

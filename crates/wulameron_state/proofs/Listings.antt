@@ -6,21 +6,21 @@ use Rattle.iceoryx2_byte_form.specs.Form.{IsForm}
 use Rattle.iceoryx2_byte_form.specs.declared.bytes.DecodeError.{DecodeError}
 use Rattle.iceoryx2_byte_form.specs.declared.bytes.DecodeError.TheVariants as decode
 use Rattle.iceoryx2_description.specs.Description.{Description}
-use Rattle.iceoryx2_world.specs.declared.listing.ListedService.{ListedService}
+use Rattle.iceoryx2_world.specs.declared.listing.Entry.{Entry}
 use Rattle.iceoryx2_world.specs.declared.listing.ListedRow.{ListedRow}
 use Rattle.iceoryx2_world.specs.declared.listing.ListedRow.TheVariants as row
 use Rattle.wulameron_state.specs.Entries.{Describes, FromEntry, nothing, of_entry, of_none}
 
 -- ---- the entry of an index
 
-module _ {reads : ListedService → Type 0} {code : ℕ} {kept : Type 0} where
-  pub of_listed : (entries : List ListedService) (i : ℕ) (e : ListedService) → i < length entries → e ≡ get_or entries i e → reads e → FromEntry reads code kept (slice_get entries i)
+module _ {reads : Entry → Type 0} {code : ℕ} {kept : Type 0} where
+  pub of_listed : (entries : List Entry) (i : ℕ) (e : Entry) → i < length entries → e ≡ get_or entries i e → reads e → FromEntry reads code kept (slice_get entries i)
   of_listed entries i e below is so =
-      subst (λ (o : Option ListedService). FromEntry reads code kept o) (sym (slice_get_read entries (length entries) i e refl below is)) (of_entry so)
+      subst (λ (o : Option Entry). FromEntry reads code kept o) (sym (slice_get_read entries (length entries) i e refl below is)) (of_entry so)
 
-  pub past_listing : (entries : List ListedService) (i : ℕ) → length entries ≤ i → code ≡ 19 → kept → FromEntry reads code kept (slice_get entries i)
+  pub past_listing : (entries : List Entry) (i : ℕ) → length entries ≤ i → code ≡ 19 → kept → FromEntry reads code kept (slice_get entries i)
   past_listing entries i past coded stays =
-      subst (λ (o : Option ListedService). FromEntry reads code kept o) (sym (slice_get_past entries i past)) (of_none coded stays)
+      subst (λ (o : Option Entry). FromEntry reads code kept o) (sym (slice_get_past entries i past)) (of_none coded stays)
 
 -- ---- what describes it
 

@@ -13,7 +13,7 @@ use Rattle.iceoryx2_types.specs.Types.{Detail, HasNameLength, IsAlignment, detai
 use Rattle.iceoryx2_types.specs.declared.types.TypeVariant.{TypeVariant}
 use Rattle.iceoryx2_world.specs.Listing.{Lists}
 use Rattle.iceoryx2_world.specs.World.{World}
-use Rattle.iceoryx2_world.specs.declared.listing.ListedService.{ListedService}
+use Rattle.iceoryx2_world.specs.declared.listing.Entry.{Entry}
 use Rattle.wulameron_request.specs.Codes.{code_of as code_of_request, code_of_answer}
 use Rattle.wulameron_request.specs.Events as event_table
 use Rattle.wulameron_request.specs.Pending.{BeginsNot, InSettings, IsBegun, Pieces, TakesKey, TakesPair, TakesTime}
@@ -157,9 +157,9 @@ module _ {S : Type 0} (step : S → Letter → S → Type 0) (world : S → Worl
       × (new ≡ record old { session = new.session })
 
 -- A listing is kept, and how many entries it has is written. Where there is no memory the last one stays.
-pub data KeepsListing (w : World) (old : List ListedService) (count : ℕ)
-    : (code : ℕ) → List ListedService → (new_count : ℕ) → Type 0 where
-  listed : {new : List ListedService} {new_count : ℕ} → Lists w new → new_count ≡ length new
+pub data KeepsListing (w : World) (old : List Entry) (count : ℕ)
+    : (code : ℕ) → List Entry → (new_count : ℕ) → Type 0 where
+  listed : {new : List Entry} {new_count : ℕ} → Lists w new → new_count ≡ length new
       → KeepsListing w old count 0 new new_count
   no_memory : KeepsListing w old count 4 old count
 

@@ -2,7 +2,7 @@
 use Rattle.std.specs.Prelude.{◌≡◌, ℕ, List, [], Option, Some, None, if◌then◌else◌}
 use Rattle.iceoryx2_byte_form.specs.Form.{IsForm}
 use Rattle.iceoryx2_description.specs.Description.{Description}
-use Rattle.iceoryx2_world.specs.declared.listing.ListedService.{ListedService}
+use Rattle.iceoryx2_world.specs.declared.listing.Entry.{Entry}
 use Rattle.iceoryx2_world.specs.declared.listing.ListedRow.{ListedRow}
 use Rattle.iceoryx2_world.specs.declared.listing.ListedRow.TheVariants as row
 use Rattle.iceoryx2_world.specs.declared.listing.ListedSegment.{ListedSegment}
@@ -61,32 +61,32 @@ abbrev pub known_name : Option Description → List ℕ
 known_name (Some d) = d.name
 known_name None = []
 
-abbrev pub listed_of : ListedService → Option Description → Listed
+abbrev pub listed_of : Entry → Option Description → Listed
 listed_of e d = listed (state_of e.row e.segment) (known_pattern d) (number_of e.row e.segment) (nodes_of e.segment)
     (max_nodes_of e.segment)
 
 -- What is read of an entry, where there is one of this index. Else the code is 19, and all places stay.
-pub data FromEntry (reads : ListedService → Type 0) (code : ℕ) (kept : Type 0) : Option ListedService → Type 0 where
+pub data FromEntry (reads : Entry → Type 0) (code : ℕ) (kept : Type 0) : Option Entry → Type 0 where
   of_none : code ≡ 19 → kept → FromEntry reads code kept None
-  of_entry : {e : ListedService} → reads e → FromEntry reads code kept (Some e)
+  of_entry : {e : Entry} → reads e → FromEntry reads code kept (Some e)
 
 -- Something is read of what describes an entry, or there was no memory for that, and all places stay.
-pub data Described (reads : Option Description → Type 0) (code : ℕ) (kept : Type 0) (e : ListedService) : Type 0 where
+pub data Described (reads : Option Description → Type 0) (code : ℕ) (kept : Type 0) (e : Entry) : Type 0 where
   read : {d : Option Description} → Describes e.row d → reads d → Described reads code kept e
   no_memory : code ≡ 4 → kept → Described reads code kept e
 
 -- An entry is given by numbers.
-abbrev pub ReadsEntry : (code : ℕ) → (old new : Listed) → Option ListedService → Type 0
+abbrev pub ReadsEntry : (code : ℕ) → (old new : Listed) → Option Entry → Type 0
 ReadsEntry code old new = FromEntry (λ e. Described (λ d. (code ≡ 0) × (new ≡ listed_of e d)) code (new ≡ old) e)
     code (new ≡ old)
 
 -- The name of an entry is written into a place.
-abbrev pub WritesName : (place : List ℕ) (length code : ℕ) (new : List ℕ) (written : ℕ) → Option ListedService → Type 0
+abbrev pub WritesName : (place : List ℕ) (length code : ℕ) (new : List ℕ) (written : ℕ) → Option Entry → Type 0
 WritesName place length code new written =
     let kept = (new ≡ place) × (written ≡ length) in
     FromEntry (Described (λ d. WritesText (known_name d) place code new written) code kept) code kept
 
 -- Its hash is.
-abbrev pub WritesHash : (place : List ℕ) (length code : ℕ) (new : List ℕ) (written : ℕ) → Option ListedService → Type 0
+abbrev pub WritesHash : (place : List ℕ) (length code : ℕ) (new : List ℕ) (written : ℕ) → Option Entry → Type 0
 WritesHash place length code new written =
     FromEntry (λ e. WritesText e.hash.0 place code new written) code ((new ≡ place) × (written ≡ length))

@@ -9,7 +9,7 @@ use crate::reading::{DONE, NO_SUCH_ITEM, OUT_OF_MEMORY, write_text};
 use crate::state::State;
 use iceoryx2_byte_form::bytes::{DecodeError, decode};
 use iceoryx2_description::description::StaticConfig;
-use iceoryx2_world::listing::{ListedRow, ListedSegment, ListedService};
+use iceoryx2_world::listing::{Entry, ListedRow, ListedSegment};
 use std::alloc::{AllocError, Global};
 use wulameron_request::reading::pattern_of;
 
@@ -80,7 +80,7 @@ fn known_pattern_of(description: &Option<StaticConfig>) -> u32
 /// nodes have it, and how many may. 19 past the last entry, and 4 where there was no memory, and then the places stay.
 pub fn entry(
     alloc: Global,
-    listing: &[ListedService],
+    listing: &[Entry],
     index: usize,
     state: &mut u32,
     pattern: &mut u32,
@@ -124,7 +124,7 @@ fn write_known_name(
 /// The name of an entry, which is empty where it isn't known. 19 past the last entry, and 4 where there was no memory.
 pub fn entry_name(
     alloc: Global,
-    listing: &[ListedService],
+    listing: &[Entry],
     index: usize,
     output: &mut [u8],
     written: &mut usize,
@@ -141,12 +141,7 @@ pub fn entry_name(
 }
 
 /// The hash of an entry. 19 past the last one.
-pub fn entry_hash(
-    listing: &[ListedService],
-    index: usize,
-    output: &mut [u8],
-    written: &mut usize,
-) -> u32
+pub fn entry_hash(listing: &[Entry], index: usize, output: &mut [u8], written: &mut usize) -> u32
     ensures { WritesHash output.old written.old result output.new written.new (slice_get listing.now index) }
 {
     match listing.get(index) {

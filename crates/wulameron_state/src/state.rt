@@ -23,7 +23,7 @@ use iceoryx2_description::config::Config;
 use iceoryx2_session::session::Session;
 use iceoryx2_session::world_storage::WorldStorage;
 use iceoryx2_table::table::Table;
-use iceoryx2_world::listing::ListedService;
+use iceoryx2_world::listing::Entry;
 use std::alloc::Global;
 use wulameron_request::pending::Pending;
 
@@ -32,7 +32,7 @@ use wulameron_request::pending::Pending;
 pub struct State<S> {
     pub session: Session<S>,
     pub pending: Pending,
-    pub listing: Vec<ListedService>,
+    pub listing: Vec<Entry>,
     pub answer: Answer,
 }
 

@@ -7,7 +7,7 @@ use Rattle.std.specs.FinMap.{entries_sorted, get-entries}
 use Rattle.std.specs.FinMap.Entries.{find, is_sorted, below_all, same_entries}
 use Rattle.std.specs.Ordering.{is_lt, eq_by_cmp}
 use Rattle.iceoryx2_description.specs.declared.description.ServiceHash.{ServiceHash}
-use Rattle.iceoryx2_world.specs.declared.listing.ListedService.{ListedService}
+use Rattle.iceoryx2_world.specs.declared.listing.Entry.{Entry}
 use Rattle.iceoryx2_world.specs.Orders.{hash_cmp, hash_total, hash_exact}
 use Rattle.iceoryx2_world.specs.World.{World, row_of, segment_of}
 use Rattle.iceoryx2_world.specs.Listing.{entry_at, by_hash}
@@ -16,7 +16,7 @@ use Rattle.iceoryx2_call_laws.specs.Quiet.{QuietService, ShowsService, service_a
 use Rattle.iceoryx2_call_laws.specs.QuietLaws.{ListsItsServices}
 use Rattle.iceoryx2_call_laws.specs.QuietLists.{listed_service, listing}
 
-abbrev entries_of : List (ServiceHash × QuietService) → List ListedService
+abbrev entries_of : List (ServiceHash × QuietService) → List Entry
 entries_of es = map (λ (e : ServiceHash × QuietService). listed_service e.0 e.1) es
 
 below_entries : (h : ServiceHash) (es : List (ServiceHash × QuietService)) → below_all hash_cmp h (by_hash (entries_of es)) ≡ below_all hash_cmp h es
@@ -38,7 +38,7 @@ shown_entry : (w : World) (h : ServiceHash) (o : Option QuietService) → ShowsS
 shown_entry w h None s = rw (s.row, s.segment) refl
 shown_entry w h (Some x) s = rw (s.row, s.segment, s.as_many) refl
 
-keyed_back : (es : List ListedService) → map (λ (e : ServiceHash × ListedService). e.1) (by_hash es) ≡ es
+keyed_back : (es : List Entry) → map (λ (e : ServiceHash × Entry). e.1) (by_hash es) ≡ es
 keyed_back [] = refl
 keyed_back (e ∷ es) = ap (λ l. e ∷ l) (keyed_back es)
 
@@ -46,4 +46,4 @@ pub lists_the_machine : ListsItsServices
 lists_the_machine w q es s l =
     let same : by_hash es ≡ by_hash (listing q) = same_entries hash_cmp hash_total hash_exact (by_hash es) (by_hash (listing q)) l.ascends (subst (λ b. T b) (sym (sorted_entries (finite.entries q.services))) (entries_sorted q.services)) (λ h.
     l.each h ∙ shown_entry w h (service_at q h) (s.services h) ∙ ap (option_map (listed_service h)) (get-entries q.services h) ∙ sym (find_entries h (finite.entries q.services))) in
-    sym (keyed_back es) ∙ ap (λ k. map (λ (e : ServiceHash × ListedService). e.1) k) same ∙ keyed_back (listing q)
+    sym (keyed_back es) ∙ ap (λ k. map (λ (e : ServiceHash × Entry). e.1) k) same ∙ keyed_back (listing q)

@@ -25,7 +25,7 @@ use iceoryx2_access::storage::{
 };
 use iceoryx2_description::description::{ServiceHash, StaticConfig};
 use iceoryx2_world::batches::Step;
-use iceoryx2_world::listing::ListedService;
+use iceoryx2_world::listing::Entry;
 use iceoryx2_world::world::{Participant, Phase, Ticket};
 use sorted_map::SortedVec;
 use std::alloc::{AllocError, Global};
@@ -155,7 +155,7 @@ impl StoredWorld {
     }
 
     /// Each service with a row or a segment, in the order of the hashes' bytes.
-    pub fn list(&self) -> Result<Vec<ListedService>, AllocError>
+    pub fn list(&self) -> Result<Vec<Entry>, AllocError>
         ensures { IfOk result (λ entries. Lists self.now entries.items) }
     {
         self.services.list()

@@ -7,7 +7,7 @@ use iceoryx2_commands::command::How;
 use iceoryx2_large_table::local::ManyLocal;
 use iceoryx2_table::local::Local;
 use iceoryx2_testing::script::{Faulty, FaultyService};
-use iceoryx2_world::listing::ListedService;
+use iceoryx2_world::listing::Entry;
 use plain_table::body::Body;
 use plain_table::plain::Plain;
 use std::alloc::Global;
@@ -30,7 +30,7 @@ fn seen<B: Body>(
     alloc: Global,
     call: Call,
     (refused, plan): (&[u64], Plan),
-) -> (Seen, Vec<ListedService>) {
+) -> (Seen, Vec<Entry>) {
     let Ok(refused) = refused.to_vec(alloc) else {
         panic!(rt; "no memory");
     };

@@ -7,7 +7,7 @@ use crate::support::command;
 use iceoryx2_commands::command::{Command, How, Reply};
 use iceoryx2_description::description::ServiceHash;
 use iceoryx2_table::local::Local;
-use iceoryx2_world::listing::ListedService;
+use iceoryx2_world::listing::Entry;
 use plain_table::plain::Plain;
 use std::alloc::Global;
 use std::process::Abort;
@@ -93,7 +93,7 @@ type Slot = (RowSummary, Segment, (bool, u64));
 /// That of a node and a service.
 fn slot<B: Commanded>(
     table: &B::Storage,
-    entries: &[ListedService],
+    entries: &[Entry],
     node: u64,
     hash: &ServiceHash,
 ) -> Slot {

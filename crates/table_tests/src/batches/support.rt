@@ -5,7 +5,7 @@ pub use crate::support::{assert_same, entries, name, push};
 use iceoryx2_description::description::ServiceHash;
 use iceoryx2_table::table::{Act, Step};
 use iceoryx2_testing::script::Faulty;
-use iceoryx2_world::listing::ListedService;
+use iceoryx2_world::listing::Entry;
 use plain_table::body::Body;
 use std::alloc::Global;
 use std::process::Abort;
@@ -142,7 +142,7 @@ pub const REPLACED: &[Deed] = &[
 ];
 
 /// The row and the segment of the only service that is listed, or of none.
-pub fn only_one(rt: &impl Abort, entries: &[ListedService]) -> (RowSummary, Segment) {
+pub fn only_one(rt: &impl Abort, entries: &[Entry]) -> (RowSummary, Segment) {
     match listing::only_one(entries) {
         Some(found) => found,
         None => panic!(rt; "more than one service"),

@@ -12,7 +12,7 @@ use iceoryx2_access::storage::{
 };
 use iceoryx2_description::description::{ServiceHash, StaticConfig};
 use iceoryx2_world::batches::Step;
-use iceoryx2_world::listing::ListedService;
+use iceoryx2_world::listing::Entry;
 use std::alloc::{AllocError, Global};
 
 impl OwnParts for StoredWorld {
@@ -30,7 +30,7 @@ impl OwnParts for StoredWorld {
         StoredWorld::take_all(self, batch, skipped)
     }
 
-    fn list(&self) -> Result<Vec<ListedService>, AllocError> {
+    fn list(&self) -> Result<Vec<Entry>, AllocError> {
         StoredWorld::list(self)
     }
 

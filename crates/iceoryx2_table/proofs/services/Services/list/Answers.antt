@@ -1,7 +1,7 @@
 use Rattle.std.proofs.Common.{List, sym, subst, ◌∙◌}
 use Rattle.std.proofs.lemmas.Result.{IfOk-weaker}
 use Rattle.sorted_map.specs.Sorted.{map_of}
-use Rattle.iceoryx2_world.specs.declared.listing.ListedService.{ListedService}
+use Rattle.iceoryx2_world.specs.declared.listing.Entry.{Entry}
 use Rattle.iceoryx2_world.specs.Orders.{hash_cmp}
 use Rattle.iceoryx2_world.specs.Listing.{ListsAll}
 use Rattle.iceoryx2_table.specs.ServicesState.{ServicesState}
@@ -15,5 +15,5 @@ returns c =
     let segments = map_of hash_cmp c.self.inside.segments in
     IfOk-weaker c.merge_entries.result _ _
     (λ es is. subst (λ (b : ServicesState). ListsAll b.rows b.segments es.items) c.self.view_is
-    (subst (λ (l : List ListedService). ListsAll rows segments l) (sym (is ∙ (λ i. merge (c.entries.ensures i) (c.entries-2.ensures i)))) (lists rows segments)))
+    (subst (λ (l : List Entry). ListsAll rows segments l) (sym (is ∙ (λ i. merge (c.entries.ensures i) (c.entries-2.ensures i)))) (lists rows segments)))
     c.merge_entries.ensures
