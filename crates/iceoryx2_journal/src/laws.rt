@@ -57,7 +57,7 @@ pub fn entries()
 ///
 /// The premise is that each began in an empty world and has read a front of one list of entries: it has taken these over,
 /// or appended them. The entries of a log are known where its contract tells them, as a `MemoryLog`'s; a file's never are,
-/// and that all its handles read one list is trusted.
+/// and that all its handles read one list is trusted. A compaction ends the list.
 pub fn processes<L: Log>()
     // The world of each agrees.
     ensures agrees { AgreesInEach L.contents }

@@ -11,7 +11,8 @@
 //!
 //! `laws::journals()`: any run over any log is accesses of own nodes, of which any may be refused, after what
 //! others do; where entries are known the world is what they come to, in order. `laws::processes()`, of processes
-//! that began empty and have read fronts of one list (`HasRead`): each world agrees, no number is published twice,
+//! that began empty and have read fronts of one list (`HasRead`) of known entries, which a file's aren't and which a
+//! compaction ends: each world agrees, no number is published twice,
 //! factories of one service and number carry one description, one that stands here stands wherever more is read
 //! unless its ticket is released there, and together no more nodes have one than its description allows (`few`).
 //! `laws::cleaning()`: cleaning leaves all others' factories standing (`spares`).

@@ -138,7 +138,7 @@ pub fn claim_free<R: Files<File = File> + Clock + RandomSource + AllocGlobal>(
     log_path: &str,
     sharing: Sharing,
 ) -> Result<Token, MonitoringError>
-    ensures ok { IfOk result (λ token. token.node ≤ HIGHEST_FREE_NODE) }
+    ensures ok { IfOk result (λ token. token.node ≤ 65535) }
     ensures err { IfErr result (IsFreeClaimError log_path.now) }
 {
     for node in 0..=HIGHEST_FREE_NODE {

@@ -67,7 +67,8 @@ pub fn promise_over_logs<L: Log>()
 /// What sessions hold together whose processes share a log, however many there are.
 ///
 /// The premise is that each journal has read a front of one list of entries, which are known, and that each slot's
-/// factory is of an own node and stands, as it does after each command of an own node.
+/// factory is of an own node and stands, as it does after each command of an own node. A file's entries are never known,
+/// and a compaction ends the list.
 pub fn sessions_over_logs<L: Log>()
     // In all slots factories of one service and number carry one description.
     ensures one { (counter : ℕ) (entries : List Entry) → HoldsOneDescription L.contents counter entries }

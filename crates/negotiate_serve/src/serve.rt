@@ -18,8 +18,8 @@ use std::io::{BufReader, Read, Write};
 /// that are still open are closed.
 ///
 /// `ServeError` where the reader or the writer answers an error, where a count is at its end (`ServeError` tells
-/// which), and where memory runs out outside a call, which is written. The writer has taken a front of a transcript
-/// then.
+/// which), and where memory runs out outside a call. The writer has taken a front of a transcript then; if memory ran
+/// out, `out of memory` follows it.
 pub fn serve<R: Read + Drop, W: Write>(
     alloc: Global,
     input: R,

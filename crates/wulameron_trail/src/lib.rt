@@ -3,8 +3,8 @@
 //! `entries::entry_line`, `changes::change_text`, `changes::change_json` and the diagram are exactly their
 //! definitions; `change_of` is what an entry changes of a service, and at most one thing (`IsChangeOf`).
 //! `printing::show_rest`, over any reader whose bytes are known: an output gets exactly what is shown of the
-//! entries there, in order, up to a torn end, a mark, damage, or an entry that isn't followed; where it fails, a
-//! front of that (`ShowsRest`).
+//! entries there, in order, up to a torn end, a mark, damage, or an entry that isn't followed; if the output or
+//! memory fails, a front of that (`ShowsRest`).
 //!
 //! `checker::check`: where it finds a log sound, the bytes are a header and entries each of which is followed to a
 //! world that agrees, and then nothing, or what a writer left that died (`IsSound`); what else it names is there,
