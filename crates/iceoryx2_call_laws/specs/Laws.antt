@@ -1,5 +1,6 @@
--- The laws over whole calls, whatever others do. Each stands here once, for its clause and for the lemma that proves
--- it; those that stand over any storage with a world inside are in Headline.
+-- The laws over whole calls, whatever others do. Each stands here once, for its clauses and for the lemma that proves
+-- it. Laws that take `step` and `world` are over any storage with a world inside: a table, a storage that refuses
+-- accesses of one, or a world by itself. Headline has what such a call is promised.
 use Rattle.std.specs.Prelude.{◌≡◌, ◌≢◌, ℕ, Bool, true, List, Result, Ok, Err}
 use Rattle.iceoryx2_access.specs.Letter.{Letter}
 use Rattle.iceoryx2_access.specs.MayRefuse.{MayRefuse}
@@ -78,13 +79,7 @@ module _ {D E C : Type 0} (own : ℕ → Bool) (c : BuilderCall D E C) where
       → own c.caller.node ≡ true → IsWordOf c word (Ok r) → Agrees w
       → ChangesLast own c.caller.node c.caller.hash w word
 
-  -- A refused call leaves nothing but that for which a removal was refused,
-  abbrev pub LeavesWhatIsRefused : Way → Type 0
-  LeavesWhatIsRefused way = (word : List Letter) (refusal : ErrorBy E C way) (w v : World)
-      → own c.caller.node ≡ true → IsWordBy c way word (Err refusal) → Run (IsFallibleUnder own) w word v → Agrees w
-      → LeavesBy own c way w word v
-
-  -- and where nothing is refused by a fault it gives everything back.
+  -- If nothing is refused by a fault, a refused call gives everything back.
   abbrev pub GivesEverythingBack : Type 0
   GivesEverythingBack = (word : List Letter) (refusal : ErrorBy E C c.way) (w v : World)
       → own c.caller.node ≡ true → IsWordOf c word (Err refusal) → Run (IsAccessUnder own) w word v → Agrees w
@@ -97,18 +92,6 @@ CloseIsShort = (r : Registered) (word : List Letter) (answer : CloseAnswer)
     → IsCloseWord r word answer → IsWithin word close_limits
 
 module _ (own : ℕ → Bool) where
-  -- A factory with another ticket stands throughout it.
-  abbrev pub CloseSpares : Type 0
-  CloseSpares = (r : Registered) (word : List Letter) (answer : CloseAnswer) (w : World) (f : Registered)
-      → own f.node ≡ true → IsCloseWord r word answer → Agrees w → f.ticket ≢ r.ticket
-      → Stands w f → Throughout (IsFallibleUnder own) (λ v. Stands v f) w word
-
-  -- What it hands back is its own factory, which stands throughout it too.
-  abbrev pub HandsBackItsOwn : Type 0
-  HandsBackItsOwn = (r s : Registered) (word : List Letter) (w : World)
-      → own r.node ≡ true → IsCloseWord r word (Err (NotHere s)) → Agrees w
-      → (s ≡ r) × (Stands w r → Throughout (IsFallibleUnder own) (λ v. Stands v r) w word)
-
   -- Of tickets of own nodes it takes its factory's out, unless it hands that back, and nothing else.
   abbrev pub TakesItsTicket : Type 0
   TakesItsTicket = (r : Registered) (word : List Letter) (answer : CloseAnswer) (w v : World)
@@ -121,14 +104,36 @@ module _ (own : ℕ → Bool) where
       → own r.node ≡ true → IsCloseWord r word answer → Run (IsAccessUnder own) w word v → Agrees w → Stands w r
       → (answer ≡ Ok tt) × HasNoTicket own v r.ticket
 
-  -- Where its factory isn't handed back the ticket is gone,
-  abbrev pub TakesTicketOut : Type 0
-  TakesTicketOut = (r : Registered) (word : List Letter) (answer : CloseAnswer) (w v : World)
-      → IsCloseWord r word answer → HandsNothingBack answer → Run (IsFallibleUnder own) w word v → Agrees w
-      → HasNoTicket own v r.ticket
+-- ---- over any storage with a world inside
+module _ {S : Type 0} (step : S → Letter → S → Type 0) (world : S → World) where
+  module _ {D E C : Type 0} (c : BuilderCall D E C) where
+    -- A refused call of an own node leaves nothing but that for which a removal was refused.
+    abbrev pub LeavesWhatIsRefused : (own : ℕ → Bool) → Way → Type 0
+    LeavesWhatIsRefused own way = (word : List Letter) (refusal : ErrorBy E C way) (s t : S)
+        → own c.caller.node ≡ true → IsWordBy c way word (Err refusal) → Run step s word t → Agrees (world s)
+        → LeavesBy own c way (world s) word (world t)
 
-  -- and nothing stays but that for which a removal was refused.
-  abbrev pub CloseLeavesWhatIsRefused : Type 0
-  CloseLeavesWhatIsRefused = (r : Registered) (word : List Letter) (answer : CloseAnswer) (w v : World)
-      → own r.node ≡ true → IsCloseWord r word answer → HandsNothingBack answer
-      → Run (IsFallibleUnder own) w word v → Agrees w → CloseLeaves own r w v word
+  module _ (own : ℕ → Bool) where
+    -- A standing factory with another ticket stands throughout a close.
+    abbrev pub CloseSpares : Type 0
+    CloseSpares = (r : Registered) (word : List Letter) (answer : CloseAnswer) (s : S) (f : Registered)
+        → own f.node ≡ true → IsCloseWord r word answer → Agrees (world s) → f.ticket ≢ r.ticket
+        → Stands (world s) f → Throughout step (λ u. Stands (world u) f) s word
+
+    -- A close hands back no factory but its own. If that stood, it stands throughout the close.
+    abbrev pub HandsBackItsOwn : Type 0
+    HandsBackItsOwn = (r back : Registered) (word : List Letter) (s : S)
+        → own r.node ≡ true → IsCloseWord r word (Err (NotHere back)) → Agrees (world s)
+        → (back ≡ r) × (Stands (world s) r → Throughout step (λ u. Stands (world u) r) s word)
+
+    -- A close that doesn't hand its factory back takes the ticket out,
+    abbrev pub TakesTicketOut : Type 0
+    TakesTicketOut = (r : Registered) (word : List Letter) (answer : CloseAnswer) (s t : S)
+        → IsCloseWord r word answer → HandsNothingBack answer → Run step s word t → Agrees (world s)
+        → HasNoTicket own (world t) r.ticket
+
+    -- and it leaves nothing but that for which a removal was refused.
+    abbrev pub CloseLeavesWhatIsRefused : Type 0
+    CloseLeavesWhatIsRefused = (r : Registered) (word : List Letter) (answer : CloseAnswer) (s t : S)
+        → own r.node ≡ true → IsCloseWord r word answer → HandsNothingBack answer
+        → Run step s word t → Agrees (world s) → CloseLeaves own r (world s) (world t) word

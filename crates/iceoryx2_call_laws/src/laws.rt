@@ -82,17 +82,18 @@ pub fn agreement<D, E: Copy, C: Copy>()
     ensures granted { (own : ℕ → Bool) (c : BuilderCall D E C) → GrantsAtLast own c }
 
     // A refused call leaves nothing of its own but that for which a removal was refused.
-    ensures leaves { (own : ℕ → Bool) (c : BuilderCall D E C) → LeavesWhatIsRefused own c c.way }
+    ensures leaves { (own : ℕ → Bool) (c : BuilderCall D E C)
+        → LeavesWhatIsRefused (IsFallibleUnder own) (λ u. u) c own c.way }
 
     // Where nothing is refused by a fault, each of its removals answers Ok, and nothing of its own stays but
     // the phase Read and spent numbers.
     ensures gives_back { (own : ℕ → Bool) (c : BuilderCall D E C) → GivesEverythingBack own c }
 
     // Each factory of an own node with another ticket that stands before a close stands throughout it.
-    ensures close_spares { (own : ℕ → Bool) → CloseSpares own }
+    ensures close_spares { (own : ℕ → Bool) → CloseSpares (IsFallibleUnder own) (λ u. u) own }
 
     // What a close hands back is the factory that it was given. It stands on, if it stood.
-    ensures not_here { (own : ℕ → Bool) → HandsBackItsOwn own }
+    ensures not_here { (own : ℕ → Bool) → HandsBackItsOwn (IsFallibleUnder own) (λ u. u) own }
 
     // A close that hands its factory back changes no ticket of an own node, and any other takes exactly its own out.
     ensures close_tickets { (own : ℕ → Bool) → TakesItsTicket own }
@@ -102,10 +103,10 @@ pub fn agreement<D, E: Copy, C: Copy>()
     ensures closed { (own : ℕ → Bool) → ClosesWhatStands own }
 
     // A close that doesn't hand its factory back takes the ticket out, whatever is refused,
-    ensures taken_out { (own : ℕ → Bool) → TakesTicketOut own }
+    ensures taken_out { (own : ℕ → Bool) → TakesTicketOut (IsFallibleUnder own) (λ u. u) own }
 
     // and of what it removes only that stays for which the removal was refused.
-    ensures close_leaves { (own : ℕ → Bool) → CloseLeavesWhatIsRefused own }
+    ensures close_leaves { (own : ℕ → Bool) → CloseLeavesWhatIsRefused (IsFallibleUnder own) (λ u. u) own }
 
     // A close makes at most four accesses. It looks nowhere and opens nothing, and removes at most one segment.
     ensures close_is_short { CloseIsShort }

@@ -2,6 +2,7 @@
 use Rattle.std.proofs.Common.{ℕ, Bool, Ok, Err}
 use Rattle.iceoryx2_rounds.proofs.Kept.{refused_create_call_keeps, refused_open_call_keeps}
 use Rattle.iceoryx2_rounds.proofs.Left.{refused_call_gives_back}
+use Rattle.iceoryx2_world.specs.Interference.{IsFallibleUnder}
 use Rattle.iceoryx2_rounds.specs.BuilderCalls.{BuilderCall, Way, ToCreate, ToOpen, ToOpenOrCreate}
 use Rattle.iceoryx2_call_laws.specs.Laws.{AddsItsTicket, RefusesCalmly, GrantsAtLast, LeavesWhatIsRefused, GivesEverythingBack}
 use Rattle.iceoryx2_call_laws.proofs.calls.AnyCalls.{may_prepare, refused_rounds, granted_in_the_end, any_gives}
@@ -22,7 +23,7 @@ module _ {D E C : Type 0} (own : ℕ → Bool) (c : BuilderCall D E C) where
   pub grants_at_last : GrantsAtLast own c
   grants_at_last word r w mine is old = changes_in_the_end own mine w old (granted_in_the_end c c.way word r is)
 
-  pub leaves_what_is_refused : (way : Way) → LeavesWhatIsRefused own c way
+  pub leaves_what_is_refused : (way : Way) → LeavesWhatIsRefused (IsFallibleUnder own) (λ u. u) c own way
   leaves_what_is_refused ToCreate word refusal w v mine is run old =
       let back = refused_create_call_keeps (may_prepare c.prepares is) in
       record { gives_back = back; leaves = gives_back own c.caller.node mine c.caller.hash back run old }

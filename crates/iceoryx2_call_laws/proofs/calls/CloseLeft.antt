@@ -178,7 +178,7 @@ module _ (own : ℕ → Bool) (i : ℕ) (is_own : own i ≡ true) (h : ServiceHa
   row_from u w v n (Err e) later was is k = (k.0, k.1 ∙ row_stays u w h n later was is)
 
 -- What each close leaves.
-pub close_leaves : (own : ℕ → Bool) → CloseLeavesWhatIsRefused own
+pub close_leaves : (own : ℕ → Bool) → CloseLeavesWhatIsRefused (IsFallibleUnder own) (λ u. u) own
 close_leaves own r word answer w v is_own not_here here run old = absurd (here _ refl)
 close_leaves own r word answer w v is_own still_counted here run old =
     let k = release_to own r is_own leave.StillCounted w v (last run) old in

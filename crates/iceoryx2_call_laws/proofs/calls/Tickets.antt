@@ -168,7 +168,7 @@ pub removes_ticket : {own : ℕ → Bool} (r : Registered) {word : List Letter} 
 removes_ticket {own} r {word} {answer} {w} {v} is here run old = subst (λ z. SameTickets own z v.tickets) (no_hand_back w.tickets r answer here) (takes_its_ticket own r word answer w v is run old)
 
 -- no own node has the factory's ticket
-pub takes_ticket_out : (own : ℕ → Bool) → TakesTicketOut own
+pub takes_ticket_out : (own : ℕ → Bool) → TakesTicketOut (IsFallibleUnder own) (λ u. u) own
 takes_ticket_out own r word answer w v is here run old x of_own there =
     let was = (removes_ticket r is here run old).no_other r.ticket x of_own there in
     elim (set_cases nat_cmp_total exact_unsigned w.tickets r.ticket None r.ticket) [ inl i ↦ absurd (cc (sym was ∙ i.1)) | inr i ↦ absurd (i.0 refl) ]

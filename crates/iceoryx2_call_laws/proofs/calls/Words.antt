@@ -42,7 +42,7 @@ spares_others f apart still_counted = (λ e _ _ _. apart (sym e), tt)
 spares_others f apart (left tag) = (λ e _ _ _. apart (sym e), (tt, tt))
 spares_others f apart (last tag segment description) = (λ e _ _ _. apart (sym e), (tt, (tt, (tt, tt))))
 
-pub close_spares : (own : ℕ → Bool) → CloseSpares own
+pub close_spares : (own : ℕ → Bool) → CloseSpares (IsFallibleUnder own) (λ u. u) own
 close_spares own r word answer w f mine is old apart s = throughout own f (λ v. Stands v f) (λ v new at. at) w word mine (spares_others f apart is) old s
 
 -- and none where it is not there
@@ -52,7 +52,7 @@ spares_its_own s e still_counted = absurd (cc)
 spares_its_own s e (left tag) = absurd (removed_here s tag (Ok tt) (Ok tt) e)
 spares_its_own s e (last tag segment description) = absurd (removed_here s tag segment description e)
 
-pub hands_back_its_own : (own : ℕ → Bool) → HandsBackItsOwn own
+pub hands_back_its_own : (own : ℕ → Bool) → HandsBackItsOwn (IsFallibleUnder own) (λ u. u) own
 hands_back_its_own own r s word w mine is old = let m = spares_its_own s refl is in (m.0, λ stood. throughout own r (λ v. Stands v r) (λ v new at. at) w word mine m.1 old stood)
 
 -- A close is short.
