@@ -15,3 +15,4 @@ pub mod AnyCalls
 pub mod Headline
 pub mod Promise
 pub mod AnyLeft
+pub mod OverStorages

@@ -9,10 +9,10 @@ use Rattle.iceoryx2_access.specs.Run.{Run, Each}
 use Rattle.iceoryx2_testing.specs.Faults.{FaultyState, IsInjectedFault}
 use Rattle.iceoryx2_world.specs.World.{World, phase_of}
 use Rattle.iceoryx2_world.specs.Access.{IsOwnPart}
-use Rattle.iceoryx2_world.specs.Agreement.{IsSegmentOf}
+use Rattle.iceoryx2_world.specs.Agreement.{IsSegmentOf, Later}
 use Rattle.iceoryx2_world.specs.Across.{Agrees}
 use Rattle.iceoryx2_world.specs.Interference.{Others, After, IsAccessUnder, IsFallibleUnder, SameTickets}
-use Rattle.iceoryx2_world.specs.Standing.{Stands}
+use Rattle.iceoryx2_world.specs.Standing.{Spares, Stands}
 use Rattle.iceoryx2_world.specs.Tables.{TableState, IsTableAccess}
 use Rattle.iceoryx2_errors.specs.declared.error.CloseError.TheVariants.{NotHere}
 use Rattle.iceoryx2_rounds.specs.Closes.{IsCloseWord}
@@ -106,12 +106,43 @@ module _ (own : ℕ → Bool) where
 
 -- ---- over any storage with a world inside
 module _ {S : Type 0} (step : S → Letter → S → Type 0) (world : S → World) where
+  -- A run from s to t along this word keeps the agreement.
+  pub record KeepsAgreementAlong (s : S) (word : List Letter) (t : S) : Type 0 where
+    -- The world agrees after the run, and is later than before it.
+    pub agrees : Agrees (world t)
+    pub later : Later (world s) (world t)
+    -- So it is after each access of the run.
+    pub after_each : Throughout step (λ u. Agrees (world u) × Later (world s) (world u)) s word
+
+  -- An access keeps a standing factory of an own node standing, unless it is a granted release of its ticket.
+  abbrev pub AccessKeepsStanding : (own : ℕ → Bool) → Type 0
+  AccessKeepsStanding own = (letter : Letter) (s t : S) (f : Registered)
+      → own f.node ≡ true → step s letter t → Spares f letter → Agrees (world s) → Stands (world s) f
+      → Stands (world t) f
+
   module _ {D E C : Type 0} (c : BuilderCall D E C) where
+    -- Every run of a call keeps the agreement.
+    abbrev pub CallKeepsAgreement : Type 0
+    CallKeepsAgreement = (word : List Letter) (answer : Result Registered (ErrorBy E C c.way)) (s t : S)
+        → IsWordOf c word answer → Run step s word t → Agrees (world s) → KeepsAgreementAlong s word t
+
+    -- A standing factory of an own node stands throughout every call, whatever this answers.
+    abbrev pub CallKeepsStanding : (own : ℕ → Bool) → Type 0
+    CallKeepsStanding own = (word : List Letter) (answer : Result Registered (ErrorBy E C c.way)) (s : S)
+        (f : Registered)
+        → own f.node ≡ true → IsWordOf c word answer → Agrees (world s) → Stands (world s) f
+        → Throughout step (λ u. Stands (world u) f) s word
+
     -- A refused call of an own node leaves nothing but that for which a removal was refused.
     abbrev pub LeavesWhatIsRefused : (own : ℕ → Bool) → Way → Type 0
     LeavesWhatIsRefused own way = (word : List Letter) (refusal : ErrorBy E C way) (s t : S)
         → own c.caller.node ≡ true → IsWordBy c way word (Err refusal) → Run step s word t → Agrees (world s)
         → LeavesBy own c way (world s) word (world t)
+
+  -- Every run of a close keeps the agreement.
+  abbrev pub CloseKeepsAgreement : Type 0
+  CloseKeepsAgreement = (r : Registered) (word : List Letter) (answer : CloseAnswer) (s t : S)
+      → IsCloseWord r word answer → Run step s word t → Agrees (world s) → KeepsAgreementAlong s word t
 
   module _ (own : ℕ → Bool) where
     -- A standing factory with another ticket stands throughout a close.

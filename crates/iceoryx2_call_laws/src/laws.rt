@@ -9,9 +9,11 @@ ghost use Rattle.iceoryx2_rounds.specs.BuilderCalls.{BuilderCall};
 ghost use Rattle.iceoryx2_rounds.specs.LawfulCalls.{IsLawfulCall};
 ghost use Rattle.iceoryx2_call_laws.specs.Headline.{EachIsAsPromised, IsOpenUntilReleased};
 ghost use Rattle.iceoryx2_call_laws.specs.Laws.{RunsOverWorld, StandsAmong, CarryTheSame, EachIsShort, AddsItsTicket};
+ghost use Rattle.iceoryx2_call_laws.specs.Laws.{AccessKeepsStanding, CallKeepsAgreement, CallKeepsStanding};
 ghost use Rattle.iceoryx2_call_laws.specs.Laws.{RefusesCalmly, GrantsAtLast, LeavesWhatIsRefused, GivesEverythingBack};
-ghost use Rattle.iceoryx2_call_laws.specs.Laws.{CloseIsShort, CloseSpares, HandsBackItsOwn, TakesItsTicket};
-ghost use Rattle.iceoryx2_call_laws.specs.Laws.{ClosesWhatStands, TakesTicketOut, CloseLeavesWhatIsRefused};
+ghost use Rattle.iceoryx2_call_laws.specs.Laws.{CloseIsShort, CloseKeepsAgreement, CloseSpares, HandsBackItsOwn};
+ghost use Rattle.iceoryx2_call_laws.specs.Laws.{TakesItsTicket, ClosesWhatStands, TakesTicketOut};
+ghost use Rattle.iceoryx2_call_laws.specs.Laws.{CloseLeavesWhatIsRefused};
 ghost use Rattle.iceoryx2_call_laws.specs.Promise.{Promise};
 
 /// Whatever a call does and whatever others do between its accesses, the world agrees after each
@@ -25,9 +27,14 @@ ghost use Rattle.iceoryx2_call_laws.specs.Promise.{Promise};
 /// A call is a word of its accesses. A create, an open and an open or create may prepare the types of
 /// their messages first; one that doesn't goes along a word of its grammar, which is a word of such a
 /// call too.
-/// Where nothing else is said, any access may be refused by a fault. What holds of the run of any word,
-/// whoever's it is, holds of these: that the world agrees is `run` of `laws_of_accesses` of `iceoryx2_world`, and that
-/// an open factory stands on is `stands` of `laws_of_standing`.
+/// Unless a clause says otherwise, any access may be refused by a fault.
+///
+/// Five clauses say what runs over a table keep. Calls and closes keep the agreement (`keeps_agreement`,
+/// `close_keeps_agreement`). A standing factory stands through every call (`keeps_standing`), through a close of a
+/// factory with another ticket (`close_keeps_standing`), and through any access but a granted release of its own ticket
+/// (`access_keeps_standing`). A call that answers Ok leaves its own factory standing too (`every_open_factory_stands`).
+/// `run` of `laws_of_accesses` and `stands` of `laws_of_standing` of `iceoryx2_world` say the same of any word over any
+/// world.
 pub fn agreement<D, E: Copy, C: Copy>()
     // A table's own accesses, whatever batches wait before them, are accesses of its world under
     // interference, whichever nodes are own, and so accesses of which any may be refused. So what is said of
@@ -37,6 +44,22 @@ pub fn agreement<D, E: Copy, C: Copy>()
     // A standing factory's segment has as many places as its description has nodes, and in it are
     // at most so many participants, each of them registered under the factory's number.
     ensures among { StandsAmong }
+
+    // Every run of a call over a table keeps the agreement: after the run, and after each of its accesses, the world
+    // agrees and is later than the old one.
+    ensures keeps_agreement { (c : BuilderCall D E C) → CallKeepsAgreement IsTableAccess (λ u. u.world) c }
+
+    // So does every run of a close.
+    ensures close_keeps_agreement { CloseKeepsAgreement IsTableAccess (λ u. u.world) }
+
+    // Each standing factory stands after every access of a call, whatever the call answers,
+    ensures keeps_standing { (c : BuilderCall D E C) → CallKeepsStanding IsTableAccess (λ u. u.world) c everyone }
+
+    // and after every access of a close, if the close is of a factory with another ticket.
+    ensures close_keeps_standing { CloseSpares IsTableAccess (λ u. u.world) everyone }
+
+    // So it does after any single access, unless the access is a granted release of the factory's ticket.
+    ensures access_keeps_standing { AccessKeepsStanding IsTableAccess (λ u. u.world) everyone }
 
     // Every open factory stands. Of every call, whichever it is and whatever it answers: it is within fixed
     // counts; after each of its accesses, whatever steps peers take, each factory that was open is open; and the

@@ -35,7 +35,7 @@ open_throughout own w word f mine each old s = throughout own f (λ v. IsOpen v 
 
 -- over a storage whose accesses are accesses of its world under interference
 module _ (own : ℕ → Bool) {S : Type 0} (step : S → Letter → S → Type 0) (world : S → World) (of_world : (s t : S) (l : Letter) → step s l t → IsFallibleUnder own (world s) l (world t)) where
-  along : (P : World → Type 0) (s : S) (word : List Letter) → Throughout (IsFallibleUnder own) P (world s) word → Throughout step (λ u. P (world u)) s word
+  pub along : (P : World → Type 0) (s : S) (word : List Letter) → Throughout (IsFallibleUnder own) P (world s) word → Throughout step (λ u. P (world u)) s word
   along P s [] p = p
   along P s (l ∷ word) p = (p.0, λ u a. along P u word (p.1 (world u) (of_world s u l a)))
 

@@ -12,6 +12,7 @@ use Rattle.iceoryx2_call_laws.proofs.calls.Standing.{stands_among, carry_the_sam
 use Rattle.iceoryx2_call_laws.proofs.calls.Headline.{open_until_released, as_promised, runs_over_world, of_table}
 use Rattle.iceoryx2_call_laws.proofs.calls.AnyCalls.{each_is_short}
 use Rattle.iceoryx2_call_laws.proofs.calls.AnyLeft.{adds_its_ticket, refuses_calmly, grants_at_last, leaves_what_is_refused, gives_everything_back}
+use Rattle.iceoryx2_call_laws.proofs.calls.OverStorages.{access_keeps_standing, call_keeps_agreement, call_keeps_standing, close_keeps_agreement, close_keeps_standing}
 use Rattle.iceoryx2_call_laws.proofs.laws.agreement.Goals as goal
 
 pub returns-clause-of_tables : goal.returns-clause-of_tables
@@ -19,6 +20,21 @@ returns-clause-of_tables g c = runs_over_world
 
 pub returns-clause-among : goal.returns-clause-among
 returns-clause-among g c = stands_among
+
+pub returns-clause-keeps_agreement : goal.returns-clause-keeps_agreement
+returns-clause-keeps_agreement g c = λ call. call_keeps_agreement everyone IsTableAccess (λ u. u.world) (of_table everyone) call
+
+pub returns-clause-close_keeps_agreement : goal.returns-clause-close_keeps_agreement
+returns-clause-close_keeps_agreement g c = close_keeps_agreement everyone IsTableAccess (λ u. u.world) (of_table everyone)
+
+pub returns-clause-keeps_standing : goal.returns-clause-keeps_standing
+returns-clause-keeps_standing g c = λ call. call_keeps_standing everyone IsTableAccess (λ u. u.world) (of_table everyone) call
+
+pub returns-clause-close_keeps_standing : goal.returns-clause-close_keeps_standing
+returns-clause-close_keeps_standing g c = close_keeps_standing everyone IsTableAccess (λ u. u.world) (of_table everyone)
+
+pub returns-clause-access_keeps_standing : goal.returns-clause-access_keeps_standing
+returns-clause-access_keeps_standing g c = access_keeps_standing everyone IsTableAccess (λ u. u.world) (of_table everyone)
 
 pub returns-clause-every_open_factory_stands : goal.returns-clause-every_open_factory_stands
 returns-clause-every_open_factory_stands g c = λ call. as_promised everyone IsTableAccess (λ u. u.world) (of_table everyone) call refl
