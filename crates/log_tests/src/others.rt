@@ -93,7 +93,7 @@ pub fn reply_of<S: Service>(
         Command::Call(call) => places.call::<S>(call, storage),
         Command::Close { slot } => match places.close(slot, storage) {
             Closing::None(reply) => reply,
-            Closing::Whole | Closing::Partial => Reply::Closed { slot },
+            Closing::Whole | Closing::Partial(_) => Reply::Closed { slot },
             Closing::Kept => Reply::NotClosed { slot },
         },
         Command::List => Reply::OutOfMemory,

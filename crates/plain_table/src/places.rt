@@ -30,7 +30,11 @@ impl Kept {
         match registration.close(storage) {
             Ok(()) => (Closing::Whole, None),
             Err(CloseError::NotHere(registration)) => (Closing::Kept, Some(Kept { registration })),
-            Err(_) => (Closing::Partial, None),
+            Err(CloseError::TagNotRemoved) => (Closing::Partial("TagNotRemoved"), None),
+            Err(CloseError::SegmentNotRemoved) => (Closing::Partial("SegmentNotRemoved"), None),
+            Err(CloseError::DescriptionNotRemoved) => {
+                (Closing::Partial("DescriptionNotRemoved"), None)
+            }
         }
     }
 }
@@ -48,8 +52,8 @@ pub enum Closing {
     None(Reply),
     /// All was removed.
     Whole,
-    /// It was released, and something was not removed.
-    Partial,
+    /// It was released, and something was not removed: the name of the error that says what.
+    Partial(&'static str),
     /// It wasn't released.
     Kept,
 }

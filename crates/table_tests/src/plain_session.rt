@@ -85,7 +85,7 @@ impl PlainSession {
         match self.places.close(slot, &mut self.table) {
             Closing::None(reply) => reply,
             Closing::Whole => Reply::Closed { slot },
-            Closing::Partial | Closing::Kept => panic!(rt; "not closed"),
+            Closing::Partial(_) | Closing::Kept => panic!(rt; "not closed"),
         }
     }
 

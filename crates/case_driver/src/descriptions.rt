@@ -1,0 +1,127 @@
+//! Descriptions with names, as bytes.
+
+use crate::words::{first_word, number};
+use crate::wrong::Wrong;
+use iceoryx2_byte_form::bytes::{decode, encode};
+use iceoryx2_commands::command::{Call, Command};
+use iceoryx2_description::description::StaticConfig;
+use iceoryx2_table::local::Local;
+use iceoryx2_table::table::Table;
+use negotiate_lines::line::{Line, parse};
+use plain_table::body::Body;
+use plain_table::places::Places;
+use std::alloc::{AllocError, Global};
+
+/// The bytes of descriptions, by their names.
+#[derive(Drop)]
+pub struct Descriptions {
+    all: Vec<(String, Vec<u8>)>,
+}
+
+/// The call that a line is.
+pub fn call_in(alloc: Global, line: &str) -> Result<Call, Wrong> {
+    match parse(alloc, line.as_bytes())? {
+        Line::Command(Command::Call(call)) => Ok(call),
+        _ => Err(Wrong),
+    }
+}
+
+/// The bytes that hexadecimal digits say.
+pub fn bytes_in(alloc: Global, digits: &str) -> Result<Vec<u8>, Wrong> {
+    match hex::decode(alloc, digits) {
+        Ok(bytes) => Ok(bytes),
+        Err(_) => Err(Wrong),
+    }
+}
+
+/// The bytes of the description that a create makes in a table of its own. They tell its node as the creator.
+fn created(alloc: Global, line: &str) -> Result<Vec<u8>, Wrong> {
+    let call = call_in(alloc, line)?;
+    let mut places = Places::new(alloc)?;
+    let mut table = Table::new(alloc);
+    let _reply = places.call::<Local>(call, &mut table);
+    Local::let_go(table);
+    match places.factory(0) {
+        Some((_, description)) => Ok(encode(alloc, description)?),
+        None => Err(Wrong),
+    }
+}
+
+/// The same description without the creator: the version is that of the form without one, and behind it stands no number.
+fn without_creator(alloc: Global, bytes: &[u8]) -> Result<Vec<u8>, AllocError> {
+    let mut all = Vec::new(alloc);
+    all.extend_from_slice(b"IOX2\x01")?;
+    all.extend_from_slice(bytes.get(13..).unwrap_or(&[]))?;
+    Ok(all)
+}
+
+/// The bytes of a service with its terms, of this creator or of none.
+fn described(alloc: Global, text: &str, creator: &str) -> Result<Vec<u8>, Wrong> {
+    let (pattern, rest) = first_word(text);
+    match first_word(creator) {
+        ("by", node) => {
+            let node = number(node)?;
+            let line = format!(in alloc; "{pattern} create {node} 0 {rest}")?;
+            created(alloc, line.as_str())
+        }
+        _ => {
+            let line = format!(in alloc; "{pattern} create 0 0 {rest}")?;
+            Ok(without_creator(alloc, &created(alloc, line.as_str())?)?)
+        }
+    }
+}
+
+impl Descriptions {
+    /// None yet.
+    pub fn new(alloc: Global) -> Descriptions {
+        Descriptions {
+            all: Vec::new(alloc),
+        }
+    }
+
+    /// Adds what `NAME [by NODE] = PATTERN SERVICE [TERM ..]` or `NAME = hex DIGITS` says.
+    pub fn add(&mut self, alloc: Global, text: &str) -> Result<(), Wrong> {
+        let Some((front, meant)) = text.split_once('=') else {
+            return Err(Wrong);
+        };
+        let (name, creator) = first_word(front);
+        let bytes = match first_word(meant) {
+            ("hex", digits) => bytes_in(alloc, digits)?,
+            _ => described(alloc, meant.trim(), creator)?,
+        };
+        Ok(self.all.push((String::from_str(alloc, name)?, bytes))?)
+    }
+
+    /// The bytes of the last description with this name.
+    pub fn bytes(&self, name: &str) -> Result<&[u8], Wrong> {
+        for (known, bytes) in self.all.iter().rev() {
+            if known.as_str() == name {
+                return Ok(bytes.as_slice());
+            }
+        }
+        Err(Wrong)
+    }
+
+    /// The last description with this name.
+    pub fn description(&self, alloc: Global, name: &str) -> Result<StaticConfig, Wrong> {
+        match decode(alloc, self.bytes(name)?) {
+            Ok(description) => Ok(description),
+            Err(_) => Err(Wrong),
+        }
+    }
+
+    /// Writes the first name of these bytes, or their digits where they have none.
+    pub fn write_name(
+        &self,
+        alloc: Global,
+        bytes: &[u8],
+        text: &mut String,
+    ) -> Result<(), AllocError> {
+        for (name, known) in &self.all {
+            if known.as_slice() == bytes {
+                return text.push_str(name.as_str());
+            }
+        }
+        text.push_str(hex::encode(alloc, bytes)?.as_str())
+    }
+}

@@ -1,0 +1,60 @@
+//! Services and nodes that a run has named.
+
+use crate::words::{first_word, named};
+use crate::wrong::Wrong;
+use iceoryx2_access::storage::{ServiceNameHasher, Sha1Hasher};
+use iceoryx2_description::description::{ServiceHash, ServiceName};
+use std::alloc::{AllocError, Global};
+
+/// Services and nodes, each once, in the order in which they came. A service has its pattern and name, and its hash.
+#[derive(Drop)]
+pub struct Known {
+    pub services: Vec<(String, ServiceHash)>,
+    pub nodes: Vec<u64>,
+}
+
+/// The first byte of what is hashed.
+const PREFIXES: [(&str, u8); 3] = [("event", b'e'), ("pubsub", b'p'), ("rr", b'r')];
+
+/// The hash of the service `PATTERN NAME`.
+pub fn hash_of(alloc: Global, service: &str) -> Result<ServiceHash, Wrong> {
+    let (pattern, name) = first_word(service);
+    let prefix = named(&PREFIXES, pattern)?;
+    match ServiceName::new(alloc, name) {
+        Ok(name) => Ok(Sha1Hasher::hash(prefix, &name)),
+        Err(_) => Err(Wrong),
+    }
+}
+
+impl Known {
+    /// Nothing yet.
+    pub fn new(alloc: Global) -> Known {
+        Known {
+            services: Vec::new(alloc),
+            nodes: Vec::new(alloc),
+        }
+    }
+
+    /// Whether a service of this hash was named.
+    pub fn has(&self, hash: &ServiceHash) -> bool {
+        self.services.iter().any(|service| service.1 == *hash)
+    }
+
+    /// Adds the service `PATTERN NAME`, and returns its hash.
+    pub fn add_service(&mut self, alloc: Global, service: &str) -> Result<ServiceHash, Wrong> {
+        let hash = hash_of(alloc, service)?;
+        if !self.has(&hash) {
+            self.services
+                .push((String::from_str(alloc, service)?, hash))?;
+        }
+        Ok(hash)
+    }
+
+    /// Adds a node.
+    pub fn add_node(&mut self, node: u64) -> Result<(), AllocError> {
+        if !self.nodes.iter().any(|other| *other == node) {
+            self.nodes.push(node)?;
+        }
+        Ok(())
+    }
+}

@@ -1,0 +1,142 @@
+//! What is left in a storage, as a text. Each part is written behind a separator, and the first separator is cut off.
+
+use crate::known::Known;
+use crate::subject::{Seen, Subject};
+use iceoryx2_description::description::ServiceHash;
+use iceoryx2_world::listing::{Entry, ListedRow, ListedSegment};
+use std::alloc::{AllocError, Global};
+
+fn write_row(row: &ListedRow, text: &mut String) -> Result<(), AllocError> {
+    match row {
+        ListedRow::Absent => Ok(()),
+        ListedRow::Locked(number) => write!(text, ", locked {number}"),
+        ListedRow::Published(number, _) => write!(text, ", published {number}"),
+    }
+}
+
+fn write_segment(segment: ListedSegment, text: &mut String) -> Result<(), AllocError> {
+    let ListedSegment {
+        number,
+        max_nodes,
+        participants,
+        marked,
+    } = segment;
+    let mark = if marked { " marked" } else { "" };
+    write!(text, ", segment {number} {participants}/{max_nodes}{mark}")
+}
+
+/// Writes what is listed under a hash.
+fn write_entries(
+    entries: &[Entry],
+    hash: &ServiceHash,
+    text: &mut String,
+) -> Result<(), AllocError> {
+    for entry in entries {
+        if entry.hash == *hash {
+            write_row(&entry.row, text)?;
+            if let Some(segment) = entry.segment {
+                write_segment(segment, text)?;
+            }
+        }
+    }
+    Ok(())
+}
+
+/// Writes whether a node has a tag and how many tickets.
+fn write_held(
+    node: u64,
+    (has_tag, tickets): (bool, u64),
+    text: &mut String,
+) -> Result<(), AllocError> {
+    let tag = if has_tag { " tag" } else { "" };
+    match (has_tag, tickets) {
+        (false, 0) => Ok(()),
+        (_, 0) => write!(text, ", node {node}{tag}"),
+        (_, 1) => write!(text, ", node {node}{tag} ticket"),
+        _ => write!(text, ", node {node}{tag} {tickets} tickets"),
+    }
+}
+
+/// Writes what there is of a service, and of which service, where several are named.
+fn write_service<S: Subject>(
+    alloc: Global,
+    storage: &S,
+    entries: &[Entry],
+    (known, service): (&Known, &(String, ServiceHash)),
+    text: &mut String,
+) -> Result<(), AllocError> {
+    let mut part = String::new(alloc);
+    write_entries(entries, &service.1, &mut part)?;
+    for &node in &known.nodes {
+        write_held(node, storage.held(node, &service.1), &mut part)?;
+    }
+    let Some(part) = part.as_str().strip_prefix(", ") else {
+        return Ok(());
+    };
+    if known.services.len() > 1 {
+        let title = service.0.as_str();
+        return write!(text, "; {title}: {part}");
+    }
+    write!(text, "; {part}")
+}
+
+/// Writes the hashes that are listed without having been named.
+fn write_others(
+    alloc: Global,
+    entries: &[Entry],
+    known: &Known,
+    text: &mut String,
+) -> Result<(), AllocError> {
+    for entry in entries {
+        if !known.has(&entry.hash) {
+            let hash = entry.hash.to_text(alloc)?;
+            write!(text, "; {hash}")?;
+        }
+    }
+    Ok(())
+}
+
+/// Writes the counts of a storage, of which none is told where it is none.
+fn write_counts(seen: &Seen, text: &mut String) -> Result<(), AllocError> {
+    if let Some(counter) = seen.counter {
+        write!(text, "; counter {counter}")?;
+    }
+    if seen.pending != 0 {
+        let pending = seen.pending;
+        write!(text, "; {pending} batches wait")?;
+    }
+    if seen.skipped != 0 {
+        let skipped = seen.skipped;
+        write!(text, "; {skipped} skipped")?;
+    }
+    Ok(())
+}
+
+/// Writes those of a script's answers that weren't taken.
+fn write_answers(answers: &[String], unsaid: usize, text: &mut String) -> Result<(), AllocError> {
+    let said = answers.len().saturating_sub(unsaid);
+    let mut separator = "; ";
+    for answer in answers.iter().skip(said) {
+        write!(text, "{separator}{answer}")?;
+        separator = ", ";
+    }
+    Ok(())
+}
+
+/// Writes all that a storage has. `answers` are those that its script began with.
+pub fn write_left<S: Subject>(
+    alloc: Global,
+    storage: &S,
+    (known, answers): (&Known, &[String]),
+    text: &mut String,
+) -> Result<(), AllocError> {
+    let seen = storage.seen(alloc)?;
+    let mut all = String::new(alloc);
+    for service in &known.services {
+        write_service(alloc, storage, &seen.entries, (known, service), &mut all)?;
+    }
+    write_others(alloc, &seen.entries, known, &mut all)?;
+    write_counts(&seen, &mut all)?;
+    write_answers(answers, seen.unsaid, &mut all)?;
+    text.push_str(all.as_str().strip_prefix("; ").unwrap_or("nothing"))
+}

@@ -1,0 +1,54 @@
+//! The program `case_driver`: plain commands in, a line each, and the answer to each question out.
+//!
+//! `over` or `program` begins a run: a storage, or a whole program. Other lines give what stands there, and what others do
+//! meanwhile; those that begin with `? ` are questions, and each is answered by a line. The driver compares nothing and knows
+//! no case: `tools/write-cases` writes its input and the answers that are wanted. Only that it is safe and ends is proved of
+//! it.
+#![tactic(auto)]
+
+mod accesses;
+mod answers;
+mod descriptions;
+mod given;
+mod known;
+mod left;
+mod run;
+mod storages;
+mod subject;
+mod terms;
+mod values;
+mod words;
+mod wrong;
+
+use crate::storages::carry_out;
+use std::io;
+
+/// Carries out the lines of one run, and prints what they are answered.
+fn print_run(rt: &HostRuntime, lines: &[&str]) -> io::Result<()> {
+    let mut text = String::new(rt.alloc());
+    carry_out(rt.alloc(), lines, &mut text)?;
+    print!(rt; "{text}")
+}
+
+/// Whether a line begins a run.
+fn begins_run(line: &str) -> bool {
+    line.starts_with("over ") || line.starts_with("program ")
+}
+
+/// Carries out run after run.
+fn print_runs(rt: &HostRuntime, input: &str) -> io::Result<()> {
+    let mut run = Vec::new(rt.alloc());
+    for line in input.lines() {
+        if begins_run(line) {
+            print_run(rt, &run)?;
+            run.clear();
+        }
+        run.push(line)?;
+    }
+    print_run(rt, &run)
+}
+
+fn main(rt: HostRuntime) -> io::Result<()> {
+    let input = io::read_to_string(rt.alloc(), rt.reader())?;
+    print_runs(&rt, input.as_str())
+}

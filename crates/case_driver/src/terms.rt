@@ -1,0 +1,202 @@
+//! What a description has that isn't the default, as the terms of a line.
+
+use iceoryx2_attribute::attribute::AttributeSet;
+use iceoryx2_description::description::{MessagingPattern, StaticConfig};
+use iceoryx2_description::event::{self, EventId};
+use iceoryx2_description::{publish_subscribe, request_response};
+use iceoryx2_types::types::{MessageTypeDetails, TypeDetail, TypeVariant};
+use std::alloc::AllocError;
+use test_support::settings::{
+    EVENTS, MESSAGES, REQUESTS, flags_of_requests, numbers_of_events, numbers_of_messages,
+    numbers_of_requests,
+};
+
+/// A type's variant, name, size and alignment.
+type Facts = (&'static str, &'static str, u64, u64);
+
+/// What types are that no term names.
+const USER_HEADER: Facts = ("fixed", "CustomHeaderMarker", 0, 1);
+
+const PAYLOAD: Facts = ("dynamic", "CustomPayloadMarker", 1, 1);
+
+const EVENT_NUMBERS: [&str; 4] = [
+    "max_notifiers",
+    "max_listeners",
+    "event_id_max_value",
+    "max_nodes",
+];
+
+const MESSAGE_NUMBERS: [&str; 6] = [
+    "max_publishers",
+    "max_subscribers",
+    "subscriber_max_buffer_size",
+    "history_size",
+    "subscriber_max_borrowed_samples",
+    "max_nodes",
+];
+
+const REQUEST_NUMBERS: [&str; 7] = [
+    "max_active_requests_per_client",
+    "max_loaned_requests",
+    "max_borrowed_responses_per_pending_response",
+    "max_response_buffer_size",
+    "max_servers",
+    "max_clients",
+    "max_nodes",
+];
+
+const REQUEST_FLAGS: [&str; 3] = [
+    "enable_safe_overflow_for_requests",
+    "enable_safe_overflow_for_responses",
+    "enable_fire_and_forget_requests",
+];
+
+fn write_numbers(
+    names: &[&str],
+    (agreed, default): (&[u64], &[u64]),
+    text: &mut String,
+) -> Result<(), AllocError> {
+    for ((name, agreed), default) in names.iter().zip(agreed).zip(default) {
+        if agreed != default {
+            write!(text, " {name}={agreed}")?;
+        }
+    }
+    Ok(())
+}
+
+/// Truth values whose default is true.
+fn write_flags(names: &[&str], agreed: &[bool], text: &mut String) -> Result<(), AllocError> {
+    for (name, agreed) in names.iter().zip(agreed) {
+        if !*agreed {
+            write!(text, " {name}=false")?;
+        }
+    }
+    Ok(())
+}
+
+/// An event that is sent. The default is none.
+fn write_event(name: &str, agreed: Option<EventId>, text: &mut String) -> Result<(), AllocError> {
+    match agreed {
+        Some(id) => {
+            let id = id.as_value();
+            write!(text, " {name}={id}")
+        }
+        None => Ok(()),
+    }
+}
+
+/// A deadline, with the time at which its service was created.
+fn write_deadline(deadline: event::Deadline, text: &mut String) -> Result<(), AllocError> {
+    let (value, time) = (deadline.value, deadline.creation_time);
+    let (seconds, nanoseconds) = (value.seconds(), value.nanoseconds());
+    write!(text, " deadline={seconds},{nanoseconds}")?;
+    let (seconds, nanoseconds) = (time.seconds(), time.nanoseconds());
+    write!(text, " now={seconds},{nanoseconds}")
+}
+
+fn write_events(agreed: &event::StaticConfig, text: &mut String) -> Result<(), AllocError> {
+    write_numbers(&EVENT_NUMBERS, (&numbers_of_events(agreed), &EVENTS), text)?;
+    write_event(
+        "notifier_created_event",
+        agreed.notifier_created_event,
+        text,
+    )?;
+    write_event(
+        "notifier_dropped_event",
+        agreed.notifier_dropped_event,
+        text,
+    )?;
+    write_event("notifier_dead_event", agreed.notifier_dead_event, text)?;
+    match agreed.deadline {
+        Some(deadline) => write_deadline(deadline, text),
+        None => Ok(()),
+    }
+}
+
+/// The word of a variant.
+fn variant_word(detail: &TypeDetail) -> &'static str {
+    match detail.variant() {
+        TypeVariant::FixedSize => "fixed",
+        TypeVariant::Dynamic => "dynamic",
+    }
+}
+
+/// A type that isn't the one that no term names.
+fn write_type(
+    name: &str,
+    detail: &TypeDetail,
+    default: Facts,
+    text: &mut String,
+) -> Result<(), AllocError> {
+    let (variant, called) = (variant_word(detail), detail.type_name());
+    let (size, alignment) = (detail.size(), detail.alignment());
+    if (variant, called, size, alignment) == default {
+        return Ok(());
+    }
+    write!(text, " {name}={variant},{called},{size},{alignment}")
+}
+
+/// The payload and the user header of a message.
+fn write_message(
+    (payload, header): (&str, &str),
+    message: &MessageTypeDetails,
+    text: &mut String,
+) -> Result<(), AllocError> {
+    write_type(payload, &message.payload, PAYLOAD, text)?;
+    write_type(header, &message.user_header, USER_HEADER, text)
+}
+
+fn write_samples(
+    agreed: &publish_subscribe::StaticConfig,
+    text: &mut String,
+) -> Result<(), AllocError> {
+    write_numbers(
+        &MESSAGE_NUMBERS,
+        (&numbers_of_messages(agreed), &MESSAGES),
+        text,
+    )?;
+    write_flags(
+        &["enable_safe_overflow"],
+        &[agreed.enable_safe_overflow],
+        text,
+    )?;
+    write_message(
+        ("payload", "user_header"),
+        &agreed.message_type_details,
+        text,
+    )
+}
+
+fn write_requests(
+    agreed: &request_response::StaticConfig,
+    text: &mut String,
+) -> Result<(), AllocError> {
+    write_flags(&REQUEST_FLAGS, &flags_of_requests(agreed), text)?;
+    write_numbers(
+        &REQUEST_NUMBERS,
+        (&numbers_of_requests(agreed), &REQUESTS),
+        text,
+    )?;
+    let request = &agreed.request_message_type_details;
+    write_message(("request_payload", "request_header"), request, text)?;
+    let response = &agreed.response_message_type_details;
+    write_message(("response_payload", "response_header"), response, text)
+}
+
+fn write_attributes(attributes: &AttributeSet, text: &mut String) -> Result<(), AllocError> {
+    for pair in attributes.pairs() {
+        let (key, value) = (pair.key(), pair.value());
+        write!(text, " attribute={key}:{value}")?;
+    }
+    Ok(())
+}
+
+/// Writes what a description has that isn't the default, each behind a space.
+pub fn write_terms(description: &StaticConfig, text: &mut String) -> Result<(), AllocError> {
+    match description.messaging_pattern() {
+        MessagingPattern::Event(agreed) => write_events(agreed, text)?,
+        MessagingPattern::PublishSubscribe(agreed) => write_samples(agreed, text)?,
+        MessagingPattern::RequestResponse(agreed) => write_requests(agreed, text)?,
+    }
+    write_attributes(description.attributes(), text)
+}
