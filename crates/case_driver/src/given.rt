@@ -1,19 +1,19 @@
-//! What the lines before the first question give: how a storage begins, what others do, and what things are called.
+//! What lines give: how a run begins, what others do, and what things are called.
 
 use crate::answers::answer_in;
-use crate::descriptions::Descriptions;
+use crate::descriptions::{Descriptions, bytes_in};
 use crate::known::Known;
 use crate::words::{first_word, named, number, numbers};
 use crate::wrong::Wrong;
 use iceoryx2_description::description::ServiceHash;
 use iceoryx2_table::table::{Act, Step};
 use iceoryx2_testing::script::Answer;
-use std::alloc::{AllocError, Global};
+use std::alloc::Global;
 
 /// At most so many batches wait.
 const MOST_BATCHES: u64 = 10_000;
 
-/// What a run is over.
+/// What a run is over: a storage, or a whole program.
 #[derive(Clone, Copy, Debug, PartialEq, Eq)]
 pub enum Over {
     Table,
@@ -23,9 +23,10 @@ pub enum Over {
     Script,
     Negotiate,
     Explain,
+    Diagram,
 }
 
-const OVER: [(&str, Over); 7] = [
+const OVER: [(&str, Over); 8] = [
     ("table", Over::Table),
     ("large", Over::Large),
     ("plain", Over::Plain),
@@ -33,9 +34,10 @@ const OVER: [(&str, Over); 7] = [
     ("script", Over::Script),
     ("negotiate", Over::Negotiate),
     ("explain", Over::Explain),
+    ("diagram", Over::Diagram),
 ];
 
-/// Which kind of line gives something.
+/// Which line of those that give something.
 #[derive(Clone, Copy)]
 enum Gift {
     Over,
@@ -43,9 +45,11 @@ enum Gift {
     Describe,
     Peer,
     Answers,
+    Nothing,
 }
 
-const GIFTS: [(&str, Gift); 6] = [
+const GIFTS: [(&str, Gift); 7] = [
+    ("", Gift::Nothing),
     ("over", Gift::Over),
     ("program", Gift::Over),
     ("service", Gift::Service),
@@ -54,20 +58,7 @@ const GIFTS: [(&str, Gift); 6] = [
     ("answers:", Gift::Answers),
 ];
 
-/// What things are called, and what goes into a program.
-#[derive(Drop)]
-pub struct Names {
-    pub descriptions: Descriptions,
-    pub known: Known,
-    /// The service that was named last.
-    pub service: Option<ServiceHash>,
-    /// The words of the script's answers.
-    pub answers: Vec<String>,
-    /// The program's input.
-    pub input: String,
-}
-
-/// What is given.
+/// What is given. Steps and answers go into the storage as it begins, all else is asked for later too.
 #[derive(Drop)]
 pub struct Given {
     pub over: Over,
@@ -75,7 +66,14 @@ pub struct Given {
     pub refused: Vec<u64>,
     pub batches: Vec<Vec<Step>>,
     pub answers: Vec<Answer>,
-    pub names: Names,
+    pub descriptions: Descriptions,
+    pub known: Known,
+    /// The service that was named last.
+    pub service: Option<ServiceHash>,
+    /// The words of the script's answers.
+    pub said: Vec<String>,
+    /// The program's input.
+    pub input: Vec<u8>,
 }
 
 /// What stands before a word, and what behind it.
@@ -101,45 +99,6 @@ fn act_in(alloc: Global, descriptions: &Descriptions, text: &str) -> Result<Act,
     }
 }
 
-impl Names {
-    /// Nothing has a name.
-    fn new(alloc: Global) -> Names {
-        Names {
-            descriptions: Descriptions::new(alloc),
-            known: Known::new(alloc),
-            service: None,
-            answers: Vec::new(alloc),
-            input: String::new(alloc),
-        }
-    }
-
-    /// Adds a line of a program's input: what stands behind `> `, or behind `>> ` for a line without an end.
-    fn add_input(&mut self, line: &str) -> Result<(), AllocError> {
-        if let Some(rest) = line.strip_prefix(">> ") {
-            return self.input.push_str(rest);
-        }
-        self.input.push_str(line.strip_prefix("> ").unwrap_or(""))?;
-        self.input.push_str("\n")
-    }
-
-    /// Takes over a line that may come at any place, and returns whether it is one.
-    pub fn add(&mut self, alloc: Global, line: &str) -> Result<bool, Wrong> {
-        let (word, rest) = first_word(line);
-        match word {
-            "" => Ok(true),
-            "service" => {
-                self.service = Some(self.known.add_service(alloc, rest)?);
-                Ok(true)
-            }
-            "describe" => {
-                self.descriptions.add(alloc, rest)?;
-                Ok(true)
-            }
-            _ => Ok(false),
-        }
-    }
-}
-
 impl Given {
     /// Nothing is given: an empty script.
     pub fn new(alloc: Global) -> Given {
@@ -149,25 +108,45 @@ impl Given {
             refused: Vec::new(alloc),
             batches: Vec::new(alloc),
             answers: Vec::new(alloc),
-            names: Names::new(alloc),
+            descriptions: Descriptions::new(alloc),
+            known: Known::new(alloc),
+            service: None,
+            said: Vec::new(alloc),
+            input: Vec::new(alloc),
         }
     }
 
-    /// Adds what a line gives.
+    /// Takes over a line that is no question.
     pub fn add(&mut self, alloc: Global, line: &str) -> Result<(), Wrong> {
         if line.starts_with('>') {
-            return Ok(self.names.add_input(line)?);
-        }
-        if self.names.add(alloc, line)? {
-            return Ok(());
+            return self.add_input(alloc, line);
         }
         let (word, rest) = first_word(line);
         match named(&GIFTS, word)? {
             Gift::Over => self.begin(alloc, rest),
+            Gift::Service => {
+                self.service = Some(self.known.add_service(alloc, rest)?);
+                Ok(())
+            }
+            Gift::Describe => self.descriptions.add(alloc, rest),
             Gift::Peer => self.add_steps(alloc, rest),
             Gift::Answers => self.add_answers(alloc, rest),
-            Gift::Service | Gift::Describe => Err(Wrong),
+            Gift::Nothing => Ok(()),
         }
+    }
+
+    /// Adds to a program's input: `> TEXT` and an end of line, `>> TEXT` without one, or the bytes of `>= DIGITS`.
+    fn add_input(&mut self, alloc: Global, line: &str) -> Result<(), Wrong> {
+        if let Some(digits) = line.strip_prefix(">= ") {
+            let bytes = bytes_in(alloc, digits)?;
+            return Ok(self.input.extend_from_slice(&bytes)?);
+        }
+        if let Some(text) = line.strip_prefix(">> ") {
+            return Ok(self.input.extend_from_slice(text.as_bytes())?);
+        }
+        let text = line.strip_prefix("> ").unwrap_or("");
+        self.input.extend_from_slice(text.as_bytes())?;
+        Ok(self.input.extend_from_slice(b"\n")?)
     }
 
     /// Begins the run `STORAGE [counter N] [refuse N ..]`.
@@ -203,20 +182,20 @@ impl Given {
         access: u64,
         (peer, steps): (u64, &str),
     ) -> Result<(), Wrong> {
-        if access == 0 || access > MOST_BATCHES {
+        if access == 0 || access > MOST_BATCHES || self.over == Over::Journal {
             return Err(Wrong);
         }
         for _ in self.batches.len() as u64..access {
             self.batches.push(Vec::new(alloc))?;
         }
-        let Some(hash) = self.names.service else {
+        let Some(hash) = self.service else {
             return Err(Wrong);
         };
         let Some(batch) = self.batches.get_mut(access as usize - 1) else {
             return Err(Wrong);
         };
         for step in steps.split(',') {
-            let act = act_in(alloc, &self.names.descriptions, step.trim())?;
+            let act = act_in(alloc, &self.descriptions, step)?;
             batch.push(Step { peer, hash, act })?;
         }
         Ok(())
@@ -226,9 +205,9 @@ impl Given {
     fn add_answers(&mut self, alloc: Global, all: &str) -> Result<(), Wrong> {
         for text in all.split(',') {
             let text = text.trim();
-            let answer = answer_in(alloc, &self.names.descriptions, text)?;
+            let answer = answer_in(alloc, &self.descriptions, text)?;
             self.answers.push(answer)?;
-            self.names.answers.push(String::from_str(alloc, text)?)?;
+            self.said.push(String::from_str(alloc, text)?)?;
         }
         Ok(())
     }

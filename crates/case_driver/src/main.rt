@@ -9,9 +9,11 @@
 mod accesses;
 mod answers;
 mod descriptions;
+mod forms;
 mod given;
 mod known;
 mod left;
+mod programs;
 mod run;
 mod storages;
 mod subject;
@@ -30,16 +32,11 @@ fn print_run(rt: &HostRuntime, lines: &[&str]) -> io::Result<()> {
     print!(rt; "{text}")
 }
 
-/// Whether a line begins a run.
-fn begins_run(line: &str) -> bool {
-    line.starts_with("over ") || line.starts_with("program ")
-}
-
 /// Carries out run after run.
 fn print_runs(rt: &HostRuntime, input: &str) -> io::Result<()> {
     let mut run = Vec::new(rt.alloc());
     for line in input.lines() {
-        if begins_run(line) {
+        if line.starts_with("over ") || line.starts_with("program ") {
             print_run(rt, &run)?;
             run.clear();
         }

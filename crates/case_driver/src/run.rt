@@ -1,19 +1,25 @@
 //! A run over one storage: each question is asked, and its answer written.
 
+use crate::accesses;
 use crate::descriptions::call_in;
-use crate::given::{Names, Over};
+use crate::forms::{write_changed, write_decoded, write_fronts};
+use crate::given::Given;
+use crate::known::hash_of;
 use crate::left::write_left;
+use crate::programs::{write_said, write_served};
 use crate::subject::Subject;
 use crate::terms::write_terms;
+use crate::values::{write_compatible, write_defined, write_required, write_type};
 use crate::words::{first_word, named, number};
 use crate::wrong::{Wrong, write_answer};
-use crate::{accesses, values};
 use iceoryx2_access::storage::{Service, Sha1Hasher, Storage};
+use iceoryx2_byte_form::bytes::encode;
 use iceoryx2_testing::script::Faulty;
 use negotiate_serve::reply::describe;
 use plain_table::places::{Closing, Places};
 use std::alloc::{AllocError, Global};
 use std::marker::PhantomData;
+use std::mem;
 
 /// Services that stand in a storage of this type.
 struct Standing<S> {
@@ -26,12 +32,9 @@ impl<S: Storage> Service for Standing<S> {
     type ServiceNameHasher = Sha1Hasher;
 }
 
-/// The storage of a run, with what stands beside it.
+/// The storage of a run, and the slots.
 #[derive(Drop)]
 struct Run<S> {
-    alloc: Global,
-    over: Over,
-    names: Names,
     storage: Faulty<S>,
     places: Places,
 }
@@ -43,56 +46,112 @@ enum Question {
     Close,
     Slot,
     Left,
+    Value(Value),
 }
 
-const QUESTIONS: [(&str, Question); 6] = [
+/// A question that is asked of no storage.
+#[derive(Clone, Copy)]
+enum Value {
+    Serve,
+    Says,
+    Decode,
+    Encode,
+    Fronts,
+    Changed,
+    Hash,
+    Define,
+    Require,
+    Type,
+    Compatible,
+}
+
+const QUESTIONS: [(&str, Question); 17] = [
     ("event", Question::Call),
     ("pubsub", Question::Call),
     ("rr", Question::Call),
     ("close", Question::Close),
     ("slot", Question::Slot),
     ("left", Question::Left),
+    ("serve", Question::Value(Value::Serve)),
+    ("says", Question::Value(Value::Says)),
+    ("decode", Question::Value(Value::Decode)),
+    ("encode", Question::Value(Value::Encode)),
+    ("fronts", Question::Value(Value::Fronts)),
+    ("changed", Question::Value(Value::Changed)),
+    ("hash", Question::Value(Value::Hash)),
+    ("define", Question::Value(Value::Define)),
+    ("require", Question::Value(Value::Require)),
+    ("type", Question::Value(Value::Type)),
+    ("compatible", Question::Value(Value::Compatible)),
 ];
 
-/// The slot that a word is.
-fn slot_in(word: &str) -> Result<usize, Wrong> {
-    Ok(number(word)? as usize)
+/// Writes what a question is answered that is asked of no storage.
+fn answer_value(
+    alloc: Global,
+    given: &Given,
+    (value, rest): (Value, &str),
+    text: &mut String,
+) -> Result<(), Wrong> {
+    match value {
+        Value::Serve => write_served(alloc, given.over, &given.input, text),
+        Value::Says => write_said(alloc, given.over, &given.input, text),
+        Value::Decode => write_decoded(alloc, rest, text),
+        Value::Encode => {
+            let description = given.descriptions.description(alloc, rest)?;
+            let bytes = encode(alloc, &description)?;
+            Ok(text.push_str(hex::encode(alloc, &bytes)?.as_str())?)
+        }
+        Value::Fronts => write_fronts(alloc, rest, text),
+        Value::Changed => write_changed(alloc, rest, text),
+        Value::Hash => {
+            let hash = hash_of(alloc, rest)?.to_text(alloc)?;
+            Ok(text.push_str(hash.as_str())?)
+        }
+        Value::Define => write_defined(alloc, rest, text),
+        Value::Require => write_required(alloc, rest, text),
+        Value::Type => write_type(alloc, rest, text),
+        Value::Compatible => write_compatible(alloc, rest, text),
+    }
 }
 
 impl<S: Subject> Run<S> {
     /// Writes what a question is answered.
-    fn answer(&mut self, question: &str, text: &mut String) -> Result<(), Wrong> {
+    fn answer(
+        &mut self,
+        alloc: Global,
+        given: &mut Given,
+        question: &str,
+        text: &mut String,
+    ) -> Result<(), Wrong> {
         let (word, rest) = first_word(question);
         match named(&QUESTIONS, word) {
-            Ok(Question::Call) => self.call(question, text),
-            Ok(Question::Close) => self.close(slot_in(rest)?, text),
-            Ok(Question::Slot) => self.write_slot(slot_in(rest)?, text),
-            Ok(Question::Left) => self.write_left(text),
-            Err(Wrong) => self.answer_other(question, text),
+            Ok(Question::Call) => self.call(alloc, given, question, text),
+            Ok(Question::Close) => self.close(number(rest)? as usize, text),
+            Ok(Question::Slot) => self.write_slot(number(rest)? as usize, text),
+            Ok(Question::Left) => {
+                let storage = self.storage.inner();
+                Ok(write_left(alloc, storage, (&given.known, &given.said), text)?)
+            }
+            Ok(Question::Value(value)) => answer_value(alloc, given, (value, rest), text),
+            Err(Wrong) if question.trim() == "counts" => Ok(self.write_counts(text)?),
+            Err(Wrong) => self.access(alloc, given, (word, rest), text),
         }
-    }
-
-    /// Writes what a question is answered that is no call, no close and not about what stands in the storage.
-    fn answer_other(&mut self, question: &str, text: &mut String) -> Result<(), Wrong> {
-        if question.trim() == "counts" {
-            return Ok(self.write_counts(text)?);
-        }
-        let (word, rest) = first_word(question);
-        if values::answer(self.alloc, (self.over, &self.names), (word, rest), text)? {
-            return Ok(());
-        }
-        self.access(word, rest, text)
     }
 
     /// Carries out a call, and writes its reply.
-    fn call(&mut self, line: &str, text: &mut String) -> Result<(), Wrong> {
-        let alloc = self.alloc;
+    fn call(
+        &mut self,
+        alloc: Global,
+        given: &mut Given,
+        line: &str,
+        text: &mut String,
+    ) -> Result<(), Wrong> {
         let call = call_in(alloc, line)?;
         let (pattern, _) = first_word(line);
         let name = call.name.as_str();
         let service = format!(in alloc; "{pattern} {name}")?;
-        let _hash = self.names.known.add_service(alloc, service.as_str())?;
-        self.names.known.add_node(call.node)?;
+        let _hash = given.known.add_service(alloc, service.as_str())?;
+        given.known.add_node(call.node)?;
         let slot = call.slot;
         let reply = self
             .places
@@ -111,24 +170,24 @@ impl<S: Subject> Run<S> {
     }
 
     /// Makes a single access. The node is its first number, but that of a release its second.
-    fn access(&mut self, name: &str, rest: &str, text: &mut String) -> Result<(), Wrong> {
-        let Some(hash) = self.names.service else {
+    fn access(
+        &mut self,
+        alloc: Global,
+        given: &mut Given,
+        (name, rest): (&str, &str),
+        text: &mut String,
+    ) -> Result<(), Wrong> {
+        let Some(hash) = given.service else {
             return Err(Wrong);
         };
         let (first, others) = first_word(rest);
         let (second, _) = first_word(others);
         let node = if name == "release" { second } else { first };
         if let Ok(node) = number(node) {
-            self.names.known.add_node(node)?;
+            given.known.add_node(node)?;
         }
-        let (descriptions, storage) = (&self.names.descriptions, &mut self.storage);
-        accesses::ask(
-            self.alloc,
-            descriptions,
-            (storage, &hash),
-            (name, rest),
-            text,
-        )
+        let (descriptions, storage) = (&given.descriptions, &mut self.storage);
+        accesses::ask(alloc, descriptions, (storage, &hash), (name, rest), text)
     }
 
     /// Writes how often the storage was asked.
@@ -139,12 +198,6 @@ impl<S: Subject> Run<S> {
             text,
             "{accesses} accesses, {looks} looks, {openings} openings, {makings} makings"
         )
-    }
-
-    /// Writes what is left in the storage.
-    fn write_left(&self, text: &mut String) -> Result<(), Wrong> {
-        let (known, answers) = (&self.names.known, self.names.answers.as_slice());
-        Ok(write_left(self.alloc, self.storage.inner(), (known, answers), text)?)
     }
 
     /// Writes what a slot holds.
@@ -159,39 +212,30 @@ impl<S: Subject> Run<S> {
         }
         Ok(write_terms(description, text)?)
     }
-
-    /// Carries out a line, and writes what it is answered, if it is a question or wrong.
-    fn carry_out(&mut self, line: &str, text: &mut String) -> Result<(), AllocError> {
-        let Some(question) = line.strip_prefix("? ") else {
-            return match self.names.add(self.alloc, line) {
-                Ok(true) => Ok(()),
-                _ => write_answer(Err(Wrong), line, text),
-            };
-        };
-        let mut answer = String::new(self.alloc);
-        match self.answer(question, &mut answer) {
-            Ok(()) => write_answer(Ok(answer), line, text),
-            Err(wrong) => write_answer(Err(wrong), line, text),
-        }
-    }
 }
 
 /// Carries out lines over a storage.
 pub fn run_lines<S: Subject>(
     alloc: Global,
-    (over, names, storage): (Over, Names, Faulty<S>),
+    given: &mut Given,
+    storage: S,
     lines: &[&str],
     text: &mut String,
 ) -> Result<(), AllocError> {
-    let mut run = Run {
-        alloc,
-        over,
-        names,
-        storage,
-        places: Places::new(alloc)?,
-    };
+    let refused = mem::replace(&mut given.refused, Vec::new(alloc));
+    let storage = Faulty::new(storage, refused);
+    let places = Places::new(alloc)?;
+    let mut run = Run { storage, places };
+    let mut answer = String::new(alloc);
     for line in lines {
-        run.carry_out(line, text)?;
+        match line.strip_prefix("? ") {
+            Some(question) => {
+                answer.clear();
+                let done = run.answer(alloc, given, question, &mut answer);
+                write_answer(done, line, Some(answer.as_str()), text)?;
+            }
+            None => write_answer(given.add(alloc, line), line, None, text)?,
+        }
     }
     Ok(())
 }

@@ -10,10 +10,11 @@ use iceoryx2_log::memory::MemoryLog;
 use iceoryx2_table::own_parts::OwnParts;
 use iceoryx2_table::table::TableOver;
 use iceoryx2_table::table::stored::StoredWorld;
-use iceoryx2_testing::script::{Faulty, Script};
+use iceoryx2_testing::script::Script;
 use plain_table::body::Body;
 use plain_table::plain::Plain;
 use std::alloc::{AllocError, Global};
+use std::mem;
 
 /// The nodes of the journal's process.
 const OWN_NODES: [u64; 6] = [1, 2, 3, 4, 5, 6];
@@ -21,81 +22,80 @@ const OWN_NODES: [u64; 6] = [1, 2, 3, 4, 5, 6];
 /// Over a table of vectors or of trees.
 fn over_table<W: OwnParts>(
     alloc: Global,
-    given: Given,
+    given: &mut Given,
     lines: &[&str],
     text: &mut String,
 ) -> Result<(), AllocError> {
     let mut table = TableOver::<W>::starting_at(alloc, given.counter);
-    table.schedule(given.batches);
-    let storage = Faulty::new(table, given.refused);
-    run_lines(alloc, (given.over, given.names, storage), lines, text)
+    table.schedule(mem::replace(&mut given.batches, Vec::new(alloc)));
+    run_lines(alloc, given, table, lines, text)
 }
 
 /// Over the plain table, which begins at 0.
 fn over_plain(
     alloc: Global,
-    given: Given,
+    given: &mut Given,
     lines: &[&str],
     text: &mut String,
 ) -> Result<(), AllocError> {
     let mut table = Plain::new(alloc);
-    Plain::schedule(&mut table, given.batches);
-    let storage = Faulty::new(table, given.refused);
-    run_lines(alloc, (given.over, given.names, storage), lines, text)
+    Plain::schedule(
+        &mut table,
+        mem::replace(&mut given.batches, Vec::new(alloc)),
+    );
+    run_lines(alloc, given, table, lines, text)
 }
 
 /// Over a journal on an empty log in memory, which nobody else uses.
 fn over_journal(
     alloc: Global,
-    given: Given,
+    given: &mut Given,
     lines: &[&str],
     text: &mut String,
 ) -> Result<(), AllocError> {
     let log = MemoryLog::from_entries(alloc, Vec::new(alloc), 0);
     let nodes = OWN_NODES.to_vec(alloc)?;
     let journal = Journal::starting_at(alloc, log, nodes, given.counter);
-    let storage = Faulty::new(journal, given.refused);
-    run_lines(alloc, (given.over, given.names, storage), lines, text)
+    run_lines(alloc, given, journal, lines, text)
 }
 
-/// Over a script of answers, which a program's run has none of.
+/// Over a script of answers.
 fn over_script(
     alloc: Global,
-    given: Given,
+    given: &mut Given,
     lines: &[&str],
     text: &mut String,
 ) -> Result<(), AllocError> {
-    let storage = Faulty::new(Script::new(given.answers), given.refused);
-    run_lines(alloc, (given.over, given.names, storage), lines, text)
+    let script = Script::new(mem::replace(&mut given.answers, Vec::new(alloc)));
+    run_lines(alloc, given, script, lines, text)
 }
 
-/// Takes over the lines before the first question, and writes which of them are wrong.
-fn given(alloc: Global, lines: &[&str], text: &mut String) -> Result<Given, AllocError> {
-    let mut given = Given::new(alloc);
+/// Takes over lines, and writes which of them are wrong.
+fn take_over(
+    alloc: Global,
+    given: &mut Given,
+    lines: &[&str],
+    text: &mut String,
+) -> Result<(), AllocError> {
     for line in lines {
-        if let Err(wrong) = given.add(alloc, line) {
-            write_answer(Err(wrong), line, text)?;
-        }
+        write_answer(given.add(alloc, line), line, None, text)?;
     }
-    Ok(given)
+    Ok(())
 }
 
-/// How many lines stand before the first question.
-fn given_count(lines: &[&str]) -> usize {
-    let first = lines.iter().position(|line| line.starts_with("? "));
-    first.unwrap_or(lines.len())
-}
-
-/// Carries out the lines of a run, and writes what they are answered.
+/// Carries out the lines of a run, and writes what they are answered. The storage is made after the lines before the first
+/// question. A program has none: what it is asked beside stands over an empty script.
 pub fn carry_out(alloc: Global, lines: &[&str], text: &mut String) -> Result<(), AllocError> {
-    let count = given_count(lines);
-    let (front, lines) = lines.split_at(count.min(lines.len()));
-    let given = given(alloc, front, text)?;
+    let first = lines.iter().position(|line| line.starts_with("? "));
+    let count = first.unwrap_or(lines.len()).min(lines.len());
+    let (front, lines) = lines.split_at(count);
+    let mut given = Given::new(alloc);
+    take_over(alloc, &mut given, front, text)?;
     match given.over {
-        Over::Table => over_table::<StoredWorld>(alloc, given, lines, text),
-        Over::Large => over_table::<WorldOver<Trees>>(alloc, given, lines, text),
-        Over::Plain => over_plain(alloc, given, lines, text),
-        Over::Journal => over_journal(alloc, given, lines, text),
-        Over::Script | Over::Negotiate | Over::Explain => over_script(alloc, given, lines, text),
+        Over::Table => over_table::<StoredWorld>(alloc, &mut given, lines, text),
+        Over::Large => over_table::<WorldOver<Trees>>(alloc, &mut given, lines, text),
+        Over::Plain => over_plain(alloc, &mut given, lines, text),
+        Over::Journal => over_journal(alloc, &mut given, lines, text),
+        _ => over_script(alloc, &mut given, lines, text),
     }
 }

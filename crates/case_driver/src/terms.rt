@@ -1,11 +1,12 @@
 //! What a description has that isn't the default, as the terms of a line.
 
+use iceoryx2_access::storage::{ServiceNameHasher, Sha1Hasher};
 use iceoryx2_attribute::attribute::AttributeSet;
 use iceoryx2_description::description::{MessagingPattern, StaticConfig};
 use iceoryx2_description::event::{self, EventId};
 use iceoryx2_description::{publish_subscribe, request_response};
 use iceoryx2_types::types::{MessageTypeDetails, TypeDetail, TypeVariant};
-use std::alloc::AllocError;
+use std::alloc::{AllocError, Global};
 use test_support::settings::{
     EVENTS, MESSAGES, REQUESTS, flags_of_requests, numbers_of_events, numbers_of_messages,
     numbers_of_requests,
@@ -114,7 +115,7 @@ fn write_events(agreed: &event::StaticConfig, text: &mut String) -> Result<(), A
 }
 
 /// The word of a variant.
-fn variant_word(detail: &TypeDetail) -> &'static str {
+pub fn variant_word(detail: &TypeDetail) -> &'static str {
     match detail.variant() {
         TypeVariant::FixedSize => "fixed",
         TypeVariant::Dynamic => "dynamic",
@@ -199,4 +200,29 @@ pub fn write_terms(description: &StaticConfig, text: &mut String) -> Result<(), 
         MessagingPattern::RequestResponse(agreed) => write_requests(agreed, text)?,
     }
     write_attributes(description.attributes(), text)
+}
+
+/// Writes a service `PATTERN NAME [by NODE] [hash=DIGITS] [TERM ..]`. The hash is told where it isn't that of the pattern and
+/// the name.
+pub fn write_service(
+    alloc: Global,
+    description: &StaticConfig,
+    text: &mut String,
+) -> Result<(), AllocError> {
+    let (pattern, prefix) = match description.messaging_pattern() {
+        MessagingPattern::Event(_) => ("event", b'e'),
+        MessagingPattern::PublishSubscribe(_) => ("pubsub", b'p'),
+        MessagingPattern::RequestResponse(_) => ("rr", b'r'),
+    };
+    let name = description.name();
+    write!(text, "{pattern} {name}")?;
+    if let Some(creator) = description.creator() {
+        write!(text, " by {creator}")?;
+    }
+    let hash = description.service_hash();
+    if *hash != Sha1Hasher::hash(prefix, name) {
+        let digits = hash.to_text(alloc)?;
+        write!(text, " hash={digits}")?;
+    }
+    write_terms(description, text)
 }

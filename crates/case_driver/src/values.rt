@@ -1,15 +1,154 @@
-//! Questions about values, and about whole programs: they are asked of no storage.
+//! Questions about attributes and types.
 
-use crate::given::{Names, Over};
+use crate::terms::variant_word;
+use crate::words::{first_word, named, number};
 use crate::wrong::Wrong;
+use iceoryx2_attribute::attribute::{AttributeError, AttributeSpecifier, AttributeVerifier};
+use iceoryx2_types::types::{MessageTypeDetails, TypeDetail, TypeDetailError, TypeVariant};
 use std::alloc::Global;
 
-/// Writes what a question is answered that is asked of no storage, and returns whether it is one.
-pub fn answer(
-    _alloc: Global,
-    (_over, _names): (Over, &Names),
-    (_word, _rest): (&str, &str),
-    _text: &mut String,
-) -> Result<bool, Wrong> {
-    Ok(false)
+const VARIANTS: [(&str, TypeVariant); 2] = [
+    ("fixed", TypeVariant::FixedSize),
+    ("dynamic", TypeVariant::Dynamic),
+];
+
+/// The name of an error of attributes.
+fn name_of(error: AttributeError) -> &'static str {
+    match error {
+        AttributeError::KeyLength => "KeyLength",
+        AttributeError::ValueLength => "ValueLength",
+        AttributeError::TooMany => "TooMany",
+        AttributeError::OutOfMemory => "OutOfMemory",
+    }
+}
+
+/// The text that a word is: one of no bytes is written as two quotes.
+fn text_in(word: &str) -> &str {
+    if word == "\"\"" { "" } else { word }
+}
+
+/// Defines pairs `K V; K V; ..`. Where one is refused, its place and why.
+fn define(specifier: &mut AttributeSpecifier, pairs: &str) -> Result<(), (u64, AttributeError)> {
+    let mut place = 0u64;
+    for pair in pairs.split(';') {
+        let (key, value) = first_word(pair);
+        place = place.saturating_add(1);
+        match specifier.define(text_in(key), text_in(value)) {
+            Ok(()) => {}
+            Err(error) => return Err((place, error)),
+        }
+    }
+    Ok(())
+}
+
+/// Writes the pairs that are defined so, in their order, or the first refusal with its place.
+pub fn write_defined(alloc: Global, pairs: &str, text: &mut String) -> Result<(), Wrong> {
+    let mut specifier = AttributeSpecifier::new(alloc);
+    if let Err((place, error)) = define(&mut specifier, pairs) {
+        let name = name_of(error);
+        return Ok(write!(text, "{name} at {place}")?);
+    }
+    for pair in specifier.attributes().pairs() {
+        let (key, value) = (pair.key(), pair.value());
+        write!(text, "{key}={value} ")?;
+    }
+    Ok(())
+}
+
+/// Requires the pairs and keys of `K:V .. | K ..`, or puts the pairs into a set that is to have them.
+fn require(
+    verifier: &mut AttributeVerifier,
+    set: &mut AttributeSpecifier,
+    (words, are_had): (&str, bool),
+) -> Result<(), AttributeError> {
+    for word in words.split_whitespace() {
+        match word.split_once(':') {
+            Some((key, value)) if are_had => set.define(key, value)?,
+            Some((key, value)) => verifier.require(key, value)?,
+            None if word == "|" => {}
+            None => verifier.require_key(word)?,
+        }
+    }
+    Ok(())
+}
+
+/// Writes the first key that a set lacks of what is required, `PAIRS | KEYS | SET`, or that it is met.
+pub fn write_required(alloc: Global, text: &str, answer: &mut String) -> Result<(), Wrong> {
+    let Some((required, had)) = text.rsplit_once('|') else {
+        return Err(Wrong);
+    };
+    let mut verifier = AttributeVerifier::new(alloc);
+    let mut set = AttributeSpecifier::new(alloc);
+    for (words, are_had) in [(required, false), (had, true)] {
+        if require(&mut verifier, &mut set, (words, are_had)).is_err() {
+            return Err(Wrong);
+        }
+    }
+    match verifier.verify_requirements(set.attributes()) {
+        Ok(()) => Ok(answer.push_str("met")?),
+        Err(key) => Ok(answer.push_str(key)?),
+    }
+}
+
+/// The parts of a type `VARIANT NAME SIZE ALIGNMENT`, with such a character between them.
+fn parts_of(text: &str, separator: char) -> Option<(&str, &str, &str, &str)> {
+    let (variant, rest) = text.trim().split_once(separator)?;
+    let (rest, alignment) = rest.rsplit_once(separator)?;
+    let (name, size) = rest.rsplit_once(separator)?;
+    Some((variant, name, size, alignment))
+}
+
+/// A type of these parts, or why there is none.
+fn detail_in(
+    alloc: Global,
+    text: &str,
+    separator: char,
+) -> Result<Result<TypeDetail, TypeDetailError>, Wrong> {
+    let Some((variant, name, size, alignment)) = parts_of(text, separator) else {
+        return Err(Wrong);
+    };
+    let variant = named(&VARIANTS, variant)?;
+    let (size, alignment) = (number(size)?, number(alignment)?);
+    Ok(TypeDetail::new(alloc, variant, text_in(name), size, alignment))
+}
+
+/// Writes a type as it is told, or why there is none.
+pub fn write_type(alloc: Global, text: &str, answer: &mut String) -> Result<(), Wrong> {
+    match detail_in(alloc, text, ' ')? {
+        Ok(detail) => {
+            let (variant, name) = (variant_word(&detail), detail.type_name());
+            let (size, alignment) = (detail.size(), detail.alignment());
+            Ok(write!(answer, "{variant} {name} {size} {alignment}")?)
+        }
+        Err(TypeDetailError::NameLength) => Ok(answer.push_str("NameLength")?),
+        Err(TypeDetailError::Alignment) => Ok(answer.push_str("Alignment")?),
+        Err(TypeDetailError::OutOfMemory) => Err(Wrong),
+    }
+}
+
+/// One of the types of a message, `VARIANT:NAME:SIZE:ALIGNMENT`.
+fn part_in(alloc: Global, part: Option<&str>) -> Result<TypeDetail, Wrong> {
+    match detail_in(alloc, part.unwrap_or(""), ':')? {
+        Ok(detail) => Ok(detail),
+        Err(_) => Err(Wrong),
+    }
+}
+
+/// A message with the types of the header, the user header and the payload, with commas between them.
+fn message_in(alloc: Global, text: &str) -> Result<MessageTypeDetails, Wrong> {
+    let mut parts = text.split(',');
+    Ok(MessageTypeDetails {
+        header: part_in(alloc, parts.next())?,
+        user_header: part_in(alloc, parts.next())?,
+        payload: part_in(alloc, parts.next())?,
+    })
+}
+
+/// Writes whether a message is compatible to another, `MESSAGE | MESSAGE`.
+pub fn write_compatible(alloc: Global, text: &str, answer: &mut String) -> Result<(), Wrong> {
+    let Some((message, other)) = text.split_once('|') else {
+        return Err(Wrong);
+    };
+    let is_compatible = message_in(alloc, message)?.is_compatible_to(&message_in(alloc, other)?);
+    Ok(write!(answer, "{is_compatible}")?)
 }

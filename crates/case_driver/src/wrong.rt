@@ -18,17 +18,19 @@ impl<T: Drop> From<AllocFailed<T>> for Wrong {
     }
 }
 
-/// Adds the answer to a line, or that the line is wrong.
+/// Writes what a question is answered, or that a line is wrong. A line that is no question has no answer.
 pub fn write_answer(
-    answer: Result<String, Wrong>,
+    done: Result<(), Wrong>,
     line: &str,
+    answer: Option<&str>,
     text: &mut String,
 ) -> Result<(), AllocError> {
-    match answer {
-        Ok(answer) => {
-            let answer = answer.as_str().trim();
+    match (done, answer) {
+        (Ok(()), None) => Ok(()),
+        (Ok(()), Some(answer)) => {
+            let answer = answer.trim_end();
             writeln!(text, "{answer}")
         }
-        Err(Wrong) => writeln!(text, "wrong: {line}"),
+        (Err(Wrong), _) => writeln!(text, "wrong: {line}"),
     }
 }

@@ -1,0 +1,53 @@
+//! Questions about the byte form.
+
+use crate::descriptions::bytes_in;
+use crate::terms::write_service;
+use crate::wrong::Wrong;
+use iceoryx2_byte_form::bytes::{DecodeError, decode};
+use std::alloc::Global;
+
+/// Writes the description of these digits in terms, or that they are none.
+pub fn write_decoded(alloc: Global, digits: &str, text: &mut String) -> Result<(), Wrong> {
+    let bytes = bytes_in(alloc, digits)?;
+    match decode(alloc, &bytes) {
+        Ok(description) => Ok(write_service(alloc, &description, text)?),
+        Err(DecodeError::Malformed) => Ok(text.push_str("Malformed")?),
+        Err(DecodeError::OutOfMemory) => Err(Wrong),
+    }
+}
+
+/// Writes how many of the proper fronts of these bytes are the form of a description.
+pub fn write_fronts(alloc: Global, digits: &str, text: &mut String) -> Result<(), Wrong> {
+    let bytes = bytes_in(alloc, digits)?;
+    let mut forms = 0u64;
+    for length in 0..bytes.len() {
+        if decode(alloc, bytes.get(..length).unwrap_or(&[])).is_ok() {
+            forms = forms.saturating_add(1);
+        }
+    }
+    let fronts = bytes.len();
+    Ok(write!(text, "{forms} of {fronts}")?)
+}
+
+/// Changes the byte at a place. The same change once more takes it back.
+fn change(bytes: &mut Vec<u8>, place: usize, bits: u8) {
+    if let Some(byte) = bytes.get_mut(place) {
+        *byte ^= bits;
+    }
+}
+
+/// Writes for how many changes of one byte there is no description.
+pub fn write_changed(alloc: Global, digits: &str, text: &mut String) -> Result<(), Wrong> {
+    let mut bytes = bytes_in(alloc, digits)?;
+    let changes = bytes.len().saturating_mul(255);
+    let mut malformed = 0u64;
+    for number in 0..changes {
+        let (place, bits) = (number / 255, (number % 255) as u8 + 1);
+        change(&mut bytes, place, bits);
+        if decode(alloc, &bytes).is_err() {
+            malformed = malformed.saturating_add(1);
+        }
+        change(&mut bytes, place, bits);
+    }
+    Ok(write!(text, "{malformed} of {changes} malformed")?)
+}
