@@ -11,7 +11,7 @@ use iceoryx2_testing::script::Answer;
 use std::alloc::{AllocError, Global};
 
 /// What an access answers, but for what it fetches.
-#[derive(Clone, Copy, Debug, PartialEq, Eq)]
+#[derive(Clone, Copy, PartialEq)]
 pub enum Said {
     Exists(Existence),
     NotFetched(FetchError),

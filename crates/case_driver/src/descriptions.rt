@@ -15,7 +15,7 @@ use std::alloc::{AllocError, Global};
 /// The bytes of descriptions, by their names.
 #[derive(Drop)]
 pub struct Descriptions {
-    all: Vec<(String, Vec<u8>)>,
+    pub all: Vec<(String, Vec<u8>)>,
 }
 
 /// The call that a line is.
@@ -72,13 +72,6 @@ fn described(alloc: Global, text: &str, creator: &str) -> Result<Vec<u8>, Wrong>
 }
 
 impl Descriptions {
-    /// None yet.
-    pub fn new(alloc: Global) -> Descriptions {
-        Descriptions {
-            all: Vec::new(alloc),
-        }
-    }
-
     /// Adds what `NAME [by NODE] = PATTERN SERVICE [TERM ..]` or `NAME = hex DIGITS` says.
     pub fn add(&mut self, alloc: Global, text: &str) -> Result<(), Wrong> {
         let Some((front, meant)) = text.split_once('=') else {

@@ -14,7 +14,7 @@ use std::alloc::Global;
 const MOST_BATCHES: u64 = 10_000;
 
 /// What a run is over: a storage, or a whole program.
-#[derive(Clone, Copy, Debug, PartialEq, Eq)]
+#[derive(Clone, Copy, PartialEq)]
 pub enum Over {
     Table,
     Large,
@@ -99,6 +99,20 @@ fn act_in(alloc: Global, descriptions: &Descriptions, text: &str) -> Result<Act,
     }
 }
 
+/// Adds the steps of a peer at a service.
+fn push_steps(
+    alloc: Global,
+    descriptions: &Descriptions,
+    (peer, hash, steps): (u64, ServiceHash, &str),
+    batch: &mut Vec<Step>,
+) -> Result<(), Wrong> {
+    for step in steps.split(',') {
+        let act = act_in(alloc, descriptions, step)?;
+        batch.push(Step { peer, hash, act })?;
+    }
+    Ok(())
+}
+
 impl Given {
     /// Nothing is given: an empty script.
     pub fn new(alloc: Global) -> Given {
@@ -108,8 +122,13 @@ impl Given {
             refused: Vec::new(alloc),
             batches: Vec::new(alloc),
             answers: Vec::new(alloc),
-            descriptions: Descriptions::new(alloc),
-            known: Known::new(alloc),
+            descriptions: Descriptions {
+                all: Vec::new(alloc),
+            },
+            known: Known {
+                services: Vec::new(alloc),
+                nodes: Vec::new(alloc),
+            },
             service: None,
             said: Vec::new(alloc),
             input: Vec::new(alloc),
@@ -188,17 +207,12 @@ impl Given {
         for _ in self.batches.len() as u64..access {
             self.batches.push(Vec::new(alloc))?;
         }
-        let Some(hash) = self.service else {
-            return Err(Wrong);
-        };
-        let Some(batch) = self.batches.get_mut(access as usize - 1) else {
-            return Err(Wrong);
-        };
-        for step in steps.split(',') {
-            let act = act_in(alloc, &self.descriptions, step)?;
-            batch.push(Step { peer, hash, act })?;
+        match (self.service, self.batches.get_mut(access as usize - 1)) {
+            (Some(hash), Some(batch)) => {
+                push_steps(alloc, &self.descriptions, (peer, hash, steps), batch)
+            }
+            _ => Err(Wrong),
         }
-        Ok(())
     }
 
     /// Adds answers of a script.

@@ -27,14 +27,6 @@ pub fn hash_of(alloc: Global, service: &str) -> Result<ServiceHash, Wrong> {
 }
 
 impl Known {
-    /// Nothing yet.
-    pub fn new(alloc: Global) -> Known {
-        Known {
-            services: Vec::new(alloc),
-            nodes: Vec::new(alloc),
-        }
-    }
-
     /// Whether a service of this hash was named.
     pub fn has(&self, hash: &ServiceHash) -> bool {
         self.services.iter().any(|service| service.1 == *hash)

@@ -1,9 +1,8 @@
 //! The program `case_driver`: plain commands in, a line each, and the answer to each question out.
 //!
-//! `over` or `program` begins a run: a storage, or a whole program. Other lines give what stands there, and what others do
-//! meanwhile; those that begin with `? ` are questions, and each is answered by a line. The driver compares nothing and knows
-//! no case: `tools/write-cases` writes its input and the answers that are wanted. Only that it is safe and ends is proved of
-//! it.
+//! `over` or `program` begins a run: a storage, or a whole program. Other lines give what stands there and what others do
+//! meanwhile; those that begin with `? ` are questions. The driver compares nothing and knows no case: what it is to answer
+//! stands beside the cases. Only that it is safe and ends is proved of it.
 #![tactic(auto)]
 
 mod accesses;

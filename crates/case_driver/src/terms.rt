@@ -1,11 +1,9 @@
 //! What a description has that isn't the default, as the terms of a line.
 
 use iceoryx2_access::storage::{ServiceNameHasher, Sha1Hasher};
-use iceoryx2_attribute::attribute::AttributeSet;
 use iceoryx2_description::description::{MessagingPattern, StaticConfig};
-use iceoryx2_description::event::{self, EventId};
-use iceoryx2_description::{publish_subscribe, request_response};
-use iceoryx2_types::types::{MessageTypeDetails, TypeDetail, TypeVariant};
+use iceoryx2_description::{event, publish_subscribe, request_response};
+use iceoryx2_types::types::{TypeDetail, TypeVariant};
 use std::alloc::{AllocError, Global};
 use test_support::settings::{
     EVENTS, MESSAGES, REQUESTS, flags_of_requests, numbers_of_events, numbers_of_messages,
@@ -75,43 +73,32 @@ fn write_flags(names: &[&str], agreed: &[bool], text: &mut String) -> Result<(),
     Ok(())
 }
 
-/// An event that is sent. The default is none.
-fn write_event(name: &str, agreed: Option<EventId>, text: &mut String) -> Result<(), AllocError> {
-    match agreed {
-        Some(id) => {
+/// Events that are sent, of which the default is none, and a deadline with the time at which its service was created.
+fn write_events(agreed: &event::StaticConfig, text: &mut String) -> Result<(), AllocError> {
+    write_numbers(
+        &EVENT_NUMBERS,
+        (&numbers_of_events(agreed), &EVENTS),
+        text,
+    )?;
+    let sent = [
+        ("notifier_created_event", agreed.notifier_created_event),
+        ("notifier_dropped_event", agreed.notifier_dropped_event),
+        ("notifier_dead_event", agreed.notifier_dead_event),
+    ];
+    for (name, id) in sent {
+        if let Some(id) = id {
             let id = id.as_value();
-            write!(text, " {name}={id}")
+            write!(text, " {name}={id}")?;
         }
-        None => Ok(()),
     }
-}
-
-/// A deadline, with the time at which its service was created.
-fn write_deadline(deadline: event::Deadline, text: &mut String) -> Result<(), AllocError> {
+    let Some(deadline) = agreed.deadline else {
+        return Ok(());
+    };
     let (value, time) = (deadline.value, deadline.creation_time);
     let (seconds, nanoseconds) = (value.seconds(), value.nanoseconds());
     write!(text, " deadline={seconds},{nanoseconds}")?;
     let (seconds, nanoseconds) = (time.seconds(), time.nanoseconds());
     write!(text, " now={seconds},{nanoseconds}")
-}
-
-fn write_events(agreed: &event::StaticConfig, text: &mut String) -> Result<(), AllocError> {
-    write_numbers(&EVENT_NUMBERS, (&numbers_of_events(agreed), &EVENTS), text)?;
-    write_event(
-        "notifier_created_event",
-        agreed.notifier_created_event,
-        text,
-    )?;
-    write_event(
-        "notifier_dropped_event",
-        agreed.notifier_dropped_event,
-        text,
-    )?;
-    write_event("notifier_dead_event", agreed.notifier_dead_event, text)?;
-    match agreed.deadline {
-        Some(deadline) => write_deadline(deadline, text),
-        None => Ok(()),
-    }
 }
 
 /// The word of a variant.
@@ -137,35 +124,15 @@ fn write_type(
     write!(text, " {name}={variant},{called},{size},{alignment}")
 }
 
-/// The payload and the user header of a message.
-fn write_message(
-    (payload, header): (&str, &str),
-    message: &MessageTypeDetails,
-    text: &mut String,
-) -> Result<(), AllocError> {
-    write_type(payload, &message.payload, PAYLOAD, text)?;
-    write_type(header, &message.user_header, USER_HEADER, text)
-}
-
 fn write_samples(
     agreed: &publish_subscribe::StaticConfig,
     text: &mut String,
 ) -> Result<(), AllocError> {
-    write_numbers(
-        &MESSAGE_NUMBERS,
-        (&numbers_of_messages(agreed), &MESSAGES),
-        text,
-    )?;
-    write_flags(
-        &["enable_safe_overflow"],
-        &[agreed.enable_safe_overflow],
-        text,
-    )?;
-    write_message(
-        ("payload", "user_header"),
-        &agreed.message_type_details,
-        text,
-    )
+    write_numbers(&MESSAGE_NUMBERS, (&numbers_of_messages(agreed), &MESSAGES), text)?;
+    write_flags(&["enable_safe_overflow"], &[agreed.enable_safe_overflow], text)?;
+    let message = &agreed.message_type_details;
+    write_type("payload", &message.payload, PAYLOAD, text)?;
+    write_type("user_header", &message.user_header, USER_HEADER, text)
 }
 
 fn write_requests(
@@ -173,23 +140,13 @@ fn write_requests(
     text: &mut String,
 ) -> Result<(), AllocError> {
     write_flags(&REQUEST_FLAGS, &flags_of_requests(agreed), text)?;
-    write_numbers(
-        &REQUEST_NUMBERS,
-        (&numbers_of_requests(agreed), &REQUESTS),
-        text,
-    )?;
+    write_numbers(&REQUEST_NUMBERS, (&numbers_of_requests(agreed), &REQUESTS), text)?;
     let request = &agreed.request_message_type_details;
-    write_message(("request_payload", "request_header"), request, text)?;
+    write_type("request_payload", &request.payload, PAYLOAD, text)?;
+    write_type("request_header", &request.user_header, USER_HEADER, text)?;
     let response = &agreed.response_message_type_details;
-    write_message(("response_payload", "response_header"), response, text)
-}
-
-fn write_attributes(attributes: &AttributeSet, text: &mut String) -> Result<(), AllocError> {
-    for pair in attributes.pairs() {
-        let (key, value) = (pair.key(), pair.value());
-        write!(text, " attribute={key}:{value}")?;
-    }
-    Ok(())
+    write_type("response_payload", &response.payload, PAYLOAD, text)?;
+    write_type("response_header", &response.user_header, USER_HEADER, text)
 }
 
 /// Writes what a description has that isn't the default, each behind a space.
@@ -199,7 +156,11 @@ pub fn write_terms(description: &StaticConfig, text: &mut String) -> Result<(), 
         MessagingPattern::PublishSubscribe(agreed) => write_samples(agreed, text)?,
         MessagingPattern::RequestResponse(agreed) => write_requests(agreed, text)?,
     }
-    write_attributes(description.attributes(), text)
+    for pair in description.attributes().pairs() {
+        let (key, value) = (pair.key(), pair.value());
+        write!(text, " attribute={key}:{value}")?;
+    }
+    Ok(())
 }
 
 /// Writes a service `PATTERN NAME [by NODE] [hash=DIGITS] [TERM ..]`. The hash is told where it isn't that of the pattern and

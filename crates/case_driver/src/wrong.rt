@@ -3,7 +3,7 @@
 use std::alloc::{AllocError, AllocFailed};
 
 /// A line isn't understood, or memory ran out.
-#[derive(Clone, Copy, Debug, PartialEq, Eq)]
+#[derive(Clone, Copy)]
 pub struct Wrong;
 
 impl From<AllocError> for Wrong {
