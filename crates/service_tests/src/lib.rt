@@ -1,11 +1,10 @@
-//! Tests that cross the crates, with values from outside the program.
+//! Tests of what no case can say of calls, with values from outside the program.
 //!
-//! Calls over scripts, over a table, and after refused accesses, by each pattern (`scripts`, `services`,
-//! `faults`): what each answers, how often it looks, opens and makes, which answers it leaves, and what stands
-//! then. An access without memory ends its call at once. Opens or creates go on and end as was meant. Calls over a
-//! traced table make exactly the accesses of their words, in room for all, three, two and none (`traced`). Each
-//! error's text, from lists of their names (`texts`); each type's constants (`types`); no refusal is out of memory
-//! where there is memory for all.
+//! Each error's text, from lists of their names (`texts`); each type's constants (`types`), and builders with types
+//! that are compiled (`typed`); copies of builders, and a ticket that an abandoned factory leaves (`factories`). Calls
+//! over a traced table make exactly the accesses of their words, in room for all, three, two and none (`traced`).
+//! A session answers commands one by one as in one go, over a table, a traced one and any world (`sessions`). Maps
+//! in sorted vectors (`maps`), and the paths by which users name what the layer has (`paths`).
 #![tactic(auto)]
 
 #[cfg(test)]
@@ -13,21 +12,13 @@ mod calls;
 #[cfg(test)]
 mod factories;
 #[cfg(test)]
-mod faults;
-#[cfg(test)]
 mod maps;
 #[cfg(test)]
 mod paths;
 #[cfg(test)]
-mod scripts;
-#[cfg(test)]
-mod services;
-#[cfg(test)]
 mod sessions;
 #[cfg(test)]
 mod support;
-#[cfg(test)]
-mod tables;
 #[cfg(test)]
 mod texts;
 #[cfg(test)]

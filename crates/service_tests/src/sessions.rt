@@ -1,13 +1,12 @@
 //! Commands of a session.
 
-use crate::calls::{
-    Ask, Asks, EventCreateError, EventOpenError, EventOpenOrCreateError, How, Refusal,
-};
+use crate::calls::{EventCreateError, EventOpenError, How, Refusal};
 use crate::support::*;
 use crate::traced::traced;
 use iceoryx2_commands::command::{Command, EventSetter, Reply, Settings};
 use iceoryx2_description::config::Config;
 use iceoryx2_description::time::{ClockFault, Duration, Time};
+use iceoryx2_errors::error::EventOpenOrCreateError;
 use iceoryx2_session::session::{Session, TableSession};
 use iceoryx2_session::table_storage::TableStorage;
 use iceoryx2_session::world_storage::WorldStorage;
@@ -18,6 +17,18 @@ use std::alloc::Global;
 use std::process::Abort;
 use test_support::calls::command;
 use test_support::listing;
+
+/// What is asked of a builder of events.
+#[derive(Clone, Copy)]
+enum Ask {
+    Nodes(u64),
+    Notifiers(u64),
+    Listeners(u64),
+    EventIds(u64),
+}
+
+/// What is asked, one after the other.
+type Asks = &'static [Ask];
 
 /// A call for the service of events of this name, by this node and into this slot, with these settings, these
 /// pairs and this key if one is named, at time zero or without a clock; or another command.
@@ -76,7 +87,6 @@ fn settings_of(rt: &impl Abort, alloc: Global, asks: Asks) -> Vec<EventSetter> {
             Ask::Notifiers(value) => EventSetter::MaxNotifiers(value),
             Ask::Listeners(value) => EventSetter::MaxListeners(value),
             Ask::EventIds(value) => EventSetter::EventIdMaxValue(value),
-            _ => panic!(rt; "these tests set no other"),
         };
         push(rt, &mut settings, setter);
     }

@@ -1,15 +1,13 @@
 //! What the tests share.
 
 use iceoryx2_access::storage::{ServiceNameHasher, Sha1Hasher};
-use iceoryx2_attribute::attribute::{AttributeSpecifier, AttributeVerifier};
+use iceoryx2_attribute::attribute::AttributeVerifier;
 use iceoryx2_description::description::{ServiceHash, ServiceName};
 use iceoryx2_table::table::Table;
 use iceoryx2_world::listing::Entry;
 use std::alloc::Global;
 use std::fmt::Debug;
 use std::process::Abort;
-use test_support::listing;
-pub use test_support::listing::{RowSummary, Segment};
 
 /// Pairs of a key and a value.
 pub type Pairs = &'static [(&'static str, &'static str)];
@@ -49,11 +47,6 @@ pub fn hash_of_events(rt: &impl Abort, alloc: Global, text: &str) -> ServiceHash
     Sha1Hasher::hash(b'e', &name(rt, alloc, text))
 }
 
-/// The bytes of hexadecimal digits.
-pub fn bytes_of(rt: &impl Abort, alloc: Global, digits: &str) -> Vec<u8> {
-    granted(rt, hex::decode(alloc, digits))
-}
-
 /// Puts something after the rest.
 pub fn push<T: Drop>(rt: &impl Abort, all: &mut Vec<T>, last: T) {
     granted(rt, all.push(last))
@@ -62,15 +55,6 @@ pub fn push<T: Drop>(rt: &impl Abort, all: &mut Vec<T>, last: T) {
 /// Lets a table go. It is dropped here alone, since a function that drops one takes long to prove.
 pub fn drop_table(table: Table) {
     let _table = table;
-}
-
-/// A specifier of these pairs.
-pub fn specifier(alloc: Global, pairs: Pairs) -> AttributeSpecifier {
-    let mut specifier = AttributeSpecifier::new(alloc);
-    for &(key, value) in pairs {
-        let _answer = specifier.define(key, value);
-    }
-    specifier
 }
 
 /// Requires these keys.
@@ -112,16 +96,6 @@ pub fn holdings(table: &Table, hash: &ServiceHash) -> Holdings {
     (held(table, 1, hash), held(table, 2, hash))
 }
 
-/// What a table has of its only service, or of none: the row, the segment, what nodes 1 and 2 hold, and the
-/// counter.
-pub type Contents = (RowSummary, Segment, Holdings, u64);
-
-/// What a table has of the service of this hash, which is its only one.
-pub fn contents(rt: &impl Abort, table: &Table, hash: &ServiceHash) -> Contents {
-    let (row, segment) = there(rt, listing::only_one(entries(rt, table).as_slice()));
-    (row, segment, holdings(table, hash), table.counter())
-}
-
 /// What a node has that doesn't know the service, and one that is registered.
 pub const NOTHING: Holding = (false, 0);
 
@@ -129,25 +103,3 @@ pub const REGISTRATION: Holding = (true, 1);
 
 /// What nodes 1 and 2 hold of a service that neither knows.
 pub const UNHELD: Holdings = (NOTHING, NOTHING);
-
-/// A new table.
-pub const NEW: Contents = (RowSummary::Absent, None, UNHELD, 0);
-
-/// A table that has handed out a number, with nothing in it.
-pub const EMPTY: Contents = (RowSummary::Absent, None, UNHELD, 1);
-
-/// The first service of a table, for 36 nodes, of node 1 alone.
-pub const OF_ONE: Contents = (
-    RowSummary::Published(0),
-    Some((0, 36, 1, false)),
-    (REGISTRATION, NOTHING),
-    1,
-);
-
-/// The first service of a table, of both nodes.
-pub const OF_BOTH: Contents = (
-    RowSummary::Published(0),
-    Some((0, 36, 2, false)),
-    (REGISTRATION, REGISTRATION),
-    2,
-);

@@ -1,15 +1,19 @@
 //! Calls over traced storages: which accesses they make, as their words demand, and what is kept of them.
 
 use crate::calls::*;
-use crate::faults::faulty_over;
-use crate::scripts::{Letter, Parts, script};
-use iceoryx2_access::storage::{Existence, PublishError, Release, Storage, Tag};
+use crate::support::push;
+use iceoryx2_access::storage::{
+    Existence, LockError, PublishError, Release, Service, Storage, Tag,
+};
+use iceoryx2_description::time::Time;
+use iceoryx2_rounds::port_factory::Registration;
 use iceoryx2_table::local::Local;
 use iceoryx2_table::table::Table;
-use iceoryx2_testing::script::{FaultyService, Scripted};
+use iceoryx2_testing::script::{Answer as AccessAnswer, Faulty, FaultyService, Script, Scripted};
 use iceoryx2_testing::traced::{Fetched, Traced, TracedAccess, TracedService};
 use std::alloc::Global;
 use std::process::Abort;
+use test_support::calls::{self, Called, plainly};
 
 /// The accesses of a create by node 1 that finds nothing, up to the publishing.
 const CREATING: &[TracedAccess] = &[
@@ -150,6 +154,87 @@ fn seen<S>(rt: &impl Abort, alloc: Global, traced: &Traced<S>) -> Trace {
     (entries, traced.total(), traced.forgotten())
 }
 
+/// A call of a node for the service of events, by the default settings, or the close of what the last granted one
+/// gave.
+#[derive(Clone, Copy)]
+enum Step {
+    Call(How, u64),
+    Close,
+}
+
+/// Steps one after the other, with what each answers.
+type Steps = &'static [(Step, Answer)];
+
+/// What such a call gives.
+fn make<S: Service>(
+    rt: &impl Abort,
+    alloc: Global,
+    storage: &mut S::Storage,
+    (how, node): (How, u64),
+) -> Called {
+    let builder = begun::<S>(rt, alloc, node, "xample");
+    calls::call::<S>(
+        builder,
+        Pattern::Event,
+        plainly(how),
+        Ok(Time::default()),
+        storage,
+    )
+}
+
+/// Closes what stands.
+fn close<S: Storage>(rt: &impl Abort, registration: Registration, storage: &mut S) -> Answer {
+    match registration.close(storage) {
+        Ok(()) => Answer::Closed,
+        Err(_) => panic!(rt; "not closed"),
+    }
+}
+
+/// Lets go what is held, if anything is. Its ticket stays.
+fn abandon(held: Option<Registration>) {
+    match held {
+        Some(registration) => registration.abandon(),
+        None => {}
+    }
+}
+
+/// What a step answers, and what is held after it: what it gives, or what was held before it.
+fn carry_out<S: Service>(
+    rt: &impl Abort,
+    alloc: Global,
+    held: Option<Registration>,
+    storage: &mut S::Storage,
+    step: Step,
+) -> (Answer, Option<Registration>) {
+    let call = match step {
+        Step::Call(how, node) => (how, node),
+        Step::Close => return (close(rt, there(rt, held), storage), None),
+    };
+    match make::<S>(rt, alloc, storage, call) {
+        Ok(registration) => {
+            abandon(held);
+            (Answer::Granted(given_by(&registration)), Some(registration))
+        }
+        Err(refusal) => (Answer::Refused(refusal), held),
+    }
+}
+
+/// Carries out the steps of a row one after the other, and ends a test where one answers otherwise than is wanted.
+fn drive<S: Service>(
+    rt: &impl Abort,
+    alloc: Global,
+    storage: &mut S::Storage,
+    (row, steps): (usize, &[(Step, Answer)]),
+) {
+    let mut held: Option<Registration> = None;
+    for (at, (step, wanted)) in steps.iter().enumerate() {
+        let (found, given) = carry_out::<S>(rt, alloc, held, storage, *step);
+        held = given;
+        assert_same(rt, (row, at, found), (row, at, *wanted));
+    }
+    abandon(held);
+}
+
 /// A room, calls with their answers, the parts of the trace after them, how many accesses there were, and
 /// how many of them are forgotten.
 type Run = (usize, Steps, &'static [&'static [TracedAccess]], (u64, u64));
@@ -163,9 +248,11 @@ fn of_table(rt: &impl Abort, alloc: Global, (row, &(room, steps, _, _)): (usize,
     trace
 }
 
-const CREATED: (Step, Answer) = (step!(Event Create 1 []), gives!(0));
+const CREATED: (Step, Answer) = (Step::Call(How::Create, 1), gives!(0));
 
-const OPENED: (Step, Answer) = (step!(Event Open 2 []), gives!(0));
+const OPENED: (Step, Answer) = (Step::Call(How::Open, 2), gives!(0));
+
+const CLOSED: (Step, Answer) = (Step::Close, Answer::Closed);
 
 /// Calls by one node and by two in room enough, and a create and its close, which make ten accesses, in less and
 /// less room.
@@ -210,7 +297,7 @@ fn the_last_accesses_of_calls_for_which_there_is_room_are_those_of_their_words(r
 
 /// A create whose publishing is refused, which gives back what it made.
 const NOT_PUBLISHED: Steps = &[(
-    step!(Event Create 1 []),
+    Step::Call(How::Create, 1),
     refused!(Event Create ServiceInCorruptedState),
 )];
 
@@ -221,6 +308,11 @@ const REFUSED: &[TracedAccess] = &[TracedAccess::Publish {
     number: 0,
     answer: Err(PublishError::Other),
 }];
+
+/// A storage of which the accesses of these numbers are refused.
+fn faulty_over<S: Drop>(rt: &impl Abort, alloc: Global, inner: S, refused: &[u64]) -> Faulty<S> {
+    Faulty::new(inner, granted(rt, refused.to_vec(alloc)))
+}
 
 /// The traces of a storage that refuses the sixth access, and of one inside it, which that access doesn't reach.
 fn of_refused(rt: &impl Abort, alloc: Global) -> [Trace; 2] {
@@ -268,16 +360,23 @@ release Left
 remove_tag Ok
 ";
 
-/// A create that finds the hash locked by somebody else.
-const LOCK_TAKEN: Parts = &[&[
-    Letter::NotThere,
-    Letter::NotCounted,
-    Letter::TagFound,
-    Letter::LockTaken,
-]];
+/// A script of a create that finds the hash locked by somebody else.
+fn locked(rt: &impl Abort, alloc: Global) -> Script {
+    let mut answers = Vec::new(alloc);
+    push(rt, &mut answers, AccessAnswer::Exists(Existence::No));
+    push(rt, &mut answers, AccessAnswer::Counts(false));
+    push(rt, &mut answers, AccessAnswer::MakeTag(Ok(Tag::Found)));
+    push(
+        rt,
+        &mut answers,
+        AccessAnswer::Lock(Err(LockError::Creation)),
+    );
+    Script::new(answers)
+}
 
+/// What that create answers.
 const TOO_LATE: Steps = &[(
-    step!(Event Create 1 []),
+    Step::Call(How::Create, 1),
     refused!(Event Create IsBeingCreatedByAnotherInstance),
 )];
 
@@ -288,8 +387,7 @@ const OVER_A_SCRIPT: &str = "exists No\ncounts false\nmake_tag Found\nlock Creat
 fn texts_of_both(rt: &impl Abort, alloc: Global) -> [String; 2] {
     let mut table = traced(rt, alloc, Table::new(alloc), 64);
     drive::<TracedService<Local>>(rt, alloc, &mut table, (0, &[CREATED, OPENED, CLOSED]));
-    let inner = script(rt, alloc, Pattern::Event, LOCK_TAKEN);
-    let mut script = traced(rt, alloc, inner, 64);
+    let mut script = traced(rt, alloc, locked(rt, alloc), 64);
     drive::<TracedService<Scripted>>(rt, alloc, &mut script, (1, TOO_LATE));
     [texts(rt, alloc, &table), texts(rt, alloc, &script)]
 }

@@ -12,7 +12,7 @@ use iceoryx2_types::types::publish_subscribe::Header;
 use iceoryx2_types::types::request_response::{RequestHeader, ResponseHeader};
 use iceoryx2_types::types::{
     Alignment, CustomHeaderMarker, CustomKeyMarker, CustomPayloadMarker, MessageTypeDetails, Slice,
-    TypeDetail, TypeDetailError, TypeVariant, ZeroCopySend,
+    TypeDetail, TypeVariant, ZeroCopySend,
 };
 use std::alloc::Global;
 use std::mem::{align_of, size_of};
@@ -190,35 +190,6 @@ pub fn detail(rt: &impl Abort, alloc: Global, facts_of: TypeFacts) -> TypeDetail
     granted(rt, TypeDetail::new(alloc, variant, name, size, alignment))
 }
 
-/// The types of a message with these alignments.
-fn of_i64(rt: &impl Abort, alloc: Global, alignments: [u64; 3]) -> MessageTypeDetails {
-    let [header, user_header, payload] = alignments;
-    MessageTypeDetails {
-        header: detail(rt, alloc, (FixedSize, "i64", 8, header)),
-        user_header: detail(rt, alloc, (FixedSize, "i64", 8, user_header)),
-        payload: detail(rt, alloc, (FixedSize, "i64", 8, payload)),
-    }
-}
-
-/// Alignments of the header, the user header and the payload of two messages, and whether the first is
-/// compatible to the second.
-const COMPATIBLE: &[([u64; 3], [u64; 3], bool)] = &[
-    ([8, 8, 8], [8, 8, 8], true),
-    ([8, 8, 8], [8, 16, 16], true),
-    ([8, 16, 16], [8, 8, 8], false),
-    ([8, 8, 16], [8, 16, 8], false),
-    ([8, 8, 8], [16, 8, 8], false),
-];
-
-#[test]
-fn a_message_fits_one_that_is_aligned_further(rt: HostRuntime) {
-    for &(own, other, wanted) in COMPATIBLE {
-        let message = of_i64(&rt, rt.alloc(), own);
-        let found = message.is_compatible_to(&of_i64(&rt, rt.alloc(), other));
-        assert_same(&rt, (own, other, found), (own, other, wanted));
-    }
-}
-
 /// Payloads in place of an `i64`, alignments that are asked, and what the payload is then.
 const OVERRIDES: &[(Option<TypeFacts<'static>>, u64, TypeFacts<'static>)] = &[
     (None, 4, (FixedSize, "i64", 8, 8)),
@@ -257,48 +228,5 @@ fn a_payload_is_aligned_as_far_as_it_is_and_as_is_asked(rt: HostRuntime) {
     for &(payload, alignment, wanted) in OVERRIDES {
         let found = overrides_to(&rt, rt.alloc(), payload, alignment, wanted);
         assert_same(&rt, (wanted, found), (wanted, true));
-    }
-}
-
-/// Lengths of names and alignments, whether there is such an alignment, and whether and why a type has
-/// no such details.
-const LIMITS: &[(usize, u64, bool, Result<(), TypeDetailError>)] = &[
-    (0, 8, true, Err(TypeDetailError::NameLength)),
-    (1, 8, true, Ok(())),
-    (256, 8, true, Ok(())),
-    (257, 8, true, Err(TypeDetailError::NameLength)),
-    (0, 3, false, Err(TypeDetailError::NameLength)),
-    (1, 0, false, Err(TypeDetailError::Alignment)),
-    (1, 1, true, Ok(())),
-    (1, 3, false, Err(TypeDetailError::Alignment)),
-    (1, 1 << 63, true, Ok(())),
-    (1, u64::MAX, false, Err(TypeDetailError::Alignment)),
-];
-
-/// Whether there is this alignment, and whether and why a type with it and a name of this length has no
-/// details.
-fn refusal(
-    rt: &impl Abort,
-    alloc: Global,
-    length: usize,
-    alignment: u64,
-) -> (bool, Result<(), TypeDetailError>) {
-    let name = granted(rt, "n".repeat(alloc, length));
-    let refusal = match TypeDetail::new(alloc, FixedSize, &name, 8, alignment) {
-        Ok(_) => Ok(()),
-        Err(error) => Err(error),
-    };
-    (Alignment::new(alignment).is_some(), refusal)
-}
-
-#[test]
-fn names_have_1_to_256_bytes_and_alignments_are_powers_of_two(rt: HostRuntime) {
-    for &(length, alignment, is_one, wanted) in LIMITS {
-        let found = refusal(&rt, rt.alloc(), length, alignment);
-        assert_same(
-            &rt,
-            (length, alignment, found),
-            (length, alignment, (is_one, wanted)),
-        );
     }
 }
