@@ -1,19 +1,16 @@
-//! Tests of what the programs `negotiate` and `explain` print, and of their status.
+//! Tests of the streams of `negotiate` and `explain`: what they print, and their status.
 //!
-//! Worked inputs of `negotiate` and `explain`, also where their reader or writer fails in mid-stream. Each reply is
-//! written and flushed before the next line is read, and nothing after a line that is no command is read (`order`).
-//! A program goes on where a byte comes or goes at a time, each interrupted a thousand times, and after more than a
-//! million lines (`retries`). Lines that are no command are never out of memory (`ample_memory`).
+//! Their reader or writer fails in mid-stream (`faults`, `explanations`), and a fault is told in a line (`reports`). Each
+//! reply is written and flushed before the next line is read, and nothing after a line that is no command is read
+//! (`order`). A program goes on where a byte comes or goes at a time, each interrupted a thousand times, and after more
+//! than a million lines (`retries`). Wrong lines may have replies (`wrong_lines`), and so have values that no line
+//! gives (`replies`).
 #![tactic(auto)]
 
-#[cfg(test)]
-mod ample_memory;
 #[cfg(test)]
 mod explanations;
 #[cfg(test)]
 mod faults;
-#[cfg(test)]
-mod lines;
 #[cfg(test)]
 mod order;
 #[cfg(test)]
@@ -22,10 +19,6 @@ mod replies;
 mod reports;
 #[cfg(test)]
 mod retries;
-#[cfg(test)]
-mod scripts;
-#[cfg(test)]
-mod setting_terms;
 #[cfg(test)]
 mod support;
 #[cfg(test)]

@@ -2,7 +2,7 @@
 
 use negotiate_serve::ending::status;
 use negotiate_serve::serve::serve;
-use std::alloc::{AllocError, Global};
+use std::alloc::Global;
 use std::fmt::Debug;
 use std::io::{self, ErrorKind, Read, Write};
 use std::process::Abort;
@@ -94,67 +94,8 @@ pub fn text_of<'a>(rt: &impl Abort, bytes: &'a [u8]) -> &'a str {
     }
 }
 
-/// Ends a test whose input, which comes in pieces of this length, isn't answered by this text, or doesn't
-/// end with this status.
-pub fn assert_pieces(
-    rt: &impl Abort,
-    alloc: Global,
-    (input, piece): (&[u8], usize),
-    wanted: &str,
-    status: u8,
-) {
-    let (bytes, found) = answered(alloc, input, piece);
-    let text = text_of(rt, bytes.as_slice());
-    assert_same(
-        rt,
-        (input, piece, text, found),
-        (input, piece, wanted, status),
-    );
-}
-
 /// Ends a test that finds another value than it wants. Only here is a value compared and printed, since
 /// a function that does so takes long to prove.
 pub fn assert_same<T: Debug + PartialEq + Drop>(rt: &impl Abort, found: T, wanted: T) {
     assert_eq!(rt; found, wanted);
-}
-
-/// Ends a test whose input isn't answered by this text, or doesn't end with this status.
-pub fn assert_answers(rt: &impl Abort, alloc: Global, input: &str, wanted: &str, status: u8) {
-    let (bytes, found) = answered(alloc, input.as_bytes(), 1000);
-    let text = text_of(rt, bytes.as_slice());
-    assert_same(rt, (input, text, found), (input, wanted, status));
-}
-
-/// What is printed for a first line that is no command.
-pub const NO_COMMAND: &str = "line 1: not a command\n";
-
-/// Ends a test that finds one of these inputs not answered by this text, or with another status.
-pub fn assert_each(rt: &impl Abort, alloc: Global, inputs: &[&str], wanted: &str, status: u8) {
-    for input in inputs {
-        assert_answers(rt, alloc, input, wanted, status);
-    }
-}
-
-/// Ends a test whose input can't be built, isn't answered by this text, or doesn't end with this
-/// status.
-pub fn assert_built(
-    rt: &impl Abort,
-    alloc: Global,
-    input: Result<String, AllocError>,
-    wanted: &str,
-    status: u8,
-) {
-    match input {
-        Ok(input) => assert_answers(rt, alloc, &input, wanted, status),
-        Err(_) => panic!(rt; "no memory"),
-    }
-}
-
-/// Ends a test whose input and text can't be built, or whose input isn't answered by the text with the
-/// status 0.
-pub fn assert_pair(rt: &impl Abort, alloc: Global, pair: Result<(String, String), AllocError>) {
-    match pair {
-        Ok((input, wanted)) => assert_answers(rt, alloc, &input, &wanted, 0),
-        Err(_) => panic!(rt; "no memory"),
-    }
 }
