@@ -2,7 +2,6 @@
 
 use crate::support::name;
 use iceoryx2_attribute::attribute::AttributeSet;
-use iceoryx2_description::config::Config;
 use iceoryx2_description::description::{MessagingPattern, ServiceHash, StaticConfig};
 use iceoryx2_types::types::publish_subscribe::Header;
 use iceoryx2_types::types::request_response::{RequestHeader, ResponseHeader};
@@ -78,15 +77,6 @@ pub fn settings_of(pattern: Pattern, offer: Offer) -> Settings {
     }
 }
 
-/// The default configuration, but for so many nodes in each pattern.
-pub fn config_for(nodes: u64) -> Config {
-    let mut config = Config::default();
-    config.event.max_nodes = nodes;
-    config.publish_subscribe.max_nodes = nodes;
-    config.request_response.max_nodes = nodes;
-    config
-}
-
 /// A message with this header, and with markers in place of the other types.
 fn message<H: ZeroCopySend>(rt: &impl Abort, alloc: Global) -> MessageTypeDetails {
     let dynamic = TypeVariant::Dynamic;
@@ -121,19 +111,4 @@ pub fn described(
         AttributeSet::new(alloc),
         pattern,
     )
-}
-
-/// The settings that a description says.
-pub fn settings_in(description: &StaticConfig) -> Settings {
-    match description.messaging_pattern() {
-        MessagingPattern::Event(chosen) => Settings::Event(settings::numbers_of_events(chosen)),
-        MessagingPattern::PublishSubscribe(chosen) => {
-            let numbers = settings::numbers_of_messages(chosen);
-            Settings::PublishSubscribe(numbers, chosen.enable_safe_overflow)
-        }
-        MessagingPattern::RequestResponse(chosen) => {
-            let flags = settings::flags_of_requests(chosen);
-            Settings::RequestResponse(flags, settings::numbers_of_requests(chosen))
-        }
-    }
 }

@@ -1,8 +1,8 @@
 //! Commands that are drawn by chance beside peers whose steps are drawn too, over each body.
 
 use self::Deed::*;
-use crate::batches::support::{DEFAULTS, Deed, FOR_TWO, PUBLISHED, REPLACED, Subject, push_steps};
 use crate::patterns::{NAME, Pattern, other_service, service};
+use crate::peers::{DEFAULTS, Deed, FOR_TWO, PUBLISHED, REPLACED, Subject, push_steps};
 use crate::plain_session::Commanded;
 use crate::support::{assert_same, command_with, draw, entries, for_nodes, no_settings, push};
 use iceoryx2_attribute::attribute::AttributeVerifier;

@@ -1,15 +1,11 @@
 //! What the tests share. A call of the layer stands here alone, in a function without a contract, so
 //! that a test that makes several of them sees answers and no contracts.
 
-use crate::patterns::{NAME, Pattern};
-use iceoryx2_access::storage::Service;
+use crate::patterns::Pattern;
 use iceoryx2_attribute::attribute::AttributeVerifier;
-use iceoryx2_builder::builder::Node;
-use iceoryx2_builder::builder::event::Builder;
 use iceoryx2_commands::command::{
     Command, EventSetter, PublishSubscribeSetter, RequestResponseSetter, Settings,
 };
-use iceoryx2_description::config::Config;
 use iceoryx2_description::description::ServiceName;
 use iceoryx2_description::time::Time;
 use iceoryx2_world::listing::Entry;
@@ -45,13 +41,6 @@ pub fn entries(rt: &impl Abort, listing: Result<Vec<Entry>, AllocError>) -> Vec<
         Ok(entries) => entries,
         Err(_) => panic!(rt; "no memory"),
     }
-}
-
-/// The builder of node 1 for the events that are called for, with the default settings.
-pub fn events<S: Service>(rt: &impl Abort, alloc: Global) -> Builder<S> {
-    Node::<S>::new(1, Config::default())
-        .service_builder(name(rt, alloc, NAME))
-        .event()
 }
 
 /// The setters of none of a pattern's settings.
@@ -96,19 +85,6 @@ pub fn command_with(
 ) -> Command {
     let name = name(rt, alloc, text);
     calls::command(called, name, settings, attributes, Ok(Time::default()))
-}
-
-/// Calls so for a pattern's service, with the default settings and no attributes.
-pub fn command(
-    rt: &impl Abort,
-    alloc: Global,
-    pattern: Pattern,
-    called: Place,
-    text: &str,
-) -> Command {
-    let settings = no_settings(alloc, pattern);
-    let attributes = AttributeVerifier::new(alloc);
-    command_with(rt, alloc, called, text, (settings, attributes))
 }
 
 /// Draws a number by chance: the next of those that follow a seed.

@@ -1,16 +1,15 @@
-//! A table at which batches of peers' steps wait, and what is left in it once a call is over.
+//! The steps of peers, and what is left in a table after them.
 
 use crate::patterns::{NAME, Offer, Pattern, described, service, settings_of};
-pub use crate::support::{assert_same, entries, name, push};
+use crate::support::{entries, push};
 use iceoryx2_description::description::ServiceHash;
 use iceoryx2_table::table::{Act, Step};
-use iceoryx2_testing::script::Faulty;
 use iceoryx2_world::listing::Entry;
 use plain_table::body::Body;
 use std::alloc::Global;
 use std::process::Abort;
 use test_support::listing;
-pub use test_support::listing::{RowSummary, Segment, row_and_segment_of};
+use test_support::listing::{RowSummary, Segment};
 
 /// The default settings, for 36 nodes.
 pub const DEFAULTS: Offer = Offer::DefaultsFor(36);
@@ -30,9 +29,6 @@ pub enum Deed {
     Join,
     Leave,
 }
-
-/// Before which accesses of the table which peer does what.
-pub type Plan = &'static [(&'static [usize], u64, &'static [Deed])];
 
 /// A service that a peer's step is for: its pattern, its hash and its name.
 pub type Subject<'a> = (Pattern, ServiceHash, &'a str);
@@ -77,57 +73,6 @@ pub fn push_steps(
     }
 }
 
-/// The steps that are planned before this access.
-fn batch(rt: &impl Abort, alloc: Global, pattern: Pattern, plan: Plan, access: usize) -> Vec<Step> {
-    let mut steps = Vec::new(alloc);
-    for &(before, peer, deeds) in plan {
-        if before.contains(&access) {
-            push_steps(rt, alloc, subject(pattern), &mut steps, (peer, deeds));
-        }
-    }
-    steps
-}
-
-/// How many batches are planned: as many as there are accesses up to the last one that the plan names.
-pub fn planned_batches(plan: Plan) -> usize {
-    let mut last = 0;
-    for &(before, _, _) in plan {
-        last = match before.last() {
-            Some(&access) if access > last => access,
-            _ => last,
-        };
-    }
-    last
-}
-
-/// Plans this of a pattern's service at a table, in the place of what waits.
-pub fn schedule<B: Body>(
-    rt: &impl Abort,
-    alloc: Global,
-    pattern: Pattern,
-    table: &mut B::Storage,
-    plan: Plan,
-) {
-    let mut batches = Vec::new(alloc);
-    for earlier in 0..planned_batches(plan) {
-        let batch = batch(rt, alloc, pattern, plan, earlier.saturating_add(1));
-        push(rt, &mut batches, batch);
-    }
-    B::schedule(table, batches);
-}
-
-/// A new table for which this is planned.
-pub fn planned<B: Body>(
-    rt: &impl Abort,
-    alloc: Global,
-    pattern: Pattern,
-    plan: Plan,
-) -> B::Storage {
-    let mut table = B::new(alloc);
-    schedule::<B>(rt, alloc, pattern, &mut table, plan);
-    table
-}
-
 /// A peer publishes the service with the default settings.
 pub const PUBLISHED: &[Deed] = &[Deed::Lock, Deed::Make(36), Deed::Publish(DEFAULTS)];
 
@@ -142,7 +87,7 @@ pub const REPLACED: &[Deed] = &[
 ];
 
 /// The row and the segment of the only service that is listed, or of none.
-pub fn only_one(rt: &impl Abort, entries: &[Entry]) -> (RowSummary, Segment) {
+fn only_one(rt: &impl Abort, entries: &[Entry]) -> (RowSummary, Segment) {
     match listing::only_one(entries) {
         Some(found) => found,
         None => panic!(rt; "more than one service"),
@@ -150,7 +95,7 @@ pub fn only_one(rt: &impl Abort, entries: &[Entry]) -> (RowSummary, Segment) {
 }
 
 /// Whether a node has a tag for a service, and how many tickets.
-pub fn held<B: Body>(table: &B::Storage, node: u64, hash: &ServiceHash) -> (bool, u64) {
+fn held<B: Body>(table: &B::Storage, node: u64, hash: &ServiceHash) -> (bool, u64) {
     (B::has_tag(table, node, hash), B::tickets(table, node, hash))
 }
 
@@ -158,25 +103,9 @@ pub fn held<B: Body>(table: &B::Storage, node: u64, hash: &ServiceHash) -> (bool
 /// counter, and how many steps found no memory.
 pub type Left = (RowSummary, Segment, (bool, u64), u64, u64);
 
-/// What is left where a peer holds the lock.
-pub const LOCKED: Left = (RowSummary::Locked(0), None, (false, 0), 1, 0);
-
 /// What is left of a pattern's service in a table with no other.
 pub fn left<B: Body>(rt: &impl Abort, pattern: Pattern, table: &B::Storage) -> Left {
     let (row, segment) = only_one(rt, entries(rt, B::list(table)).as_slice());
     let held = held::<B>(table, 1, &service(pattern));
     (row, segment, held, B::counter(table), B::skipped(table))
-}
-
-/// How many looks, openings, makings and accesses a table was asked for.
-pub type Counts = (u64, u64, u64, u64);
-
-/// The counts of a table.
-pub fn counts<T>(table: &Faulty<T>) -> Counts {
-    (
-        table.looks(),
-        table.openings(),
-        table.makings(),
-        table.accesses(),
-    )
 }
