@@ -1,6 +1,5 @@
 //! What a table lists, without hashes and bytes.
 
-use iceoryx2_description::description::ServiceHash;
 use iceoryx2_world::listing::{Entry, ListedRow, ListedSegment};
 
 /// What is written under a service's hash, without the bytes.
@@ -41,14 +40,4 @@ pub fn only_one(entries: &[Entry]) -> Option<(RowSummary, Segment)> {
         [entry] => Some((row_of(entry), segment_of(entry))),
         _ => None,
     }
-}
-
-/// The row and the segment that are listed under a hash.
-pub fn row_and_segment_of(entries: &[Entry], hash: &ServiceHash) -> (RowSummary, Segment) {
-    for entry in entries {
-        if entry.hash == *hash {
-            return (row_of(entry), segment_of(entry));
-        }
-    }
-    (RowSummary::Absent, None)
 }
