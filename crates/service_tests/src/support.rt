@@ -103,3 +103,12 @@ pub const REGISTRATION: Holding = (true, 1);
 
 /// What nodes 1 and 2 hold of a service that neither knows.
 pub const UNHELD: Holdings = (NOTHING, NOTHING);
+
+/// Draws a number by chance: the next of those that follow a seed.
+pub fn draw(seed: &mut u64) -> u64 {
+    let next = seed
+        .wrapping_mul(6364136223846793005)
+        .wrapping_add(1442695040888963407);
+    *seed = next;
+    next >> 33
+}

@@ -1,7 +1,7 @@
 //! What ends a journal, and what it refuses in a name that isn't its own.
 
-use crate::rows::{Answer, answer_of};
-use crate::support::{SUBJECTS, assert_same, command, granted, journal_of, push};
+use crate::journals::rows::{Answer, answer_of};
+use crate::journals::support::{SUBJECTS, assert_same, command, granted, journal_of, push};
 use iceoryx2_commands::command::How;
 use iceoryx2_description::config::Config;
 use iceoryx2_log::entry::{Deed, Entry};

@@ -1,47 +1,15 @@
-//! What the tests share. A call of the layer stands here alone, in a function without a contract, so
-//! that a test that makes several of them sees answers and no contracts.
+//! Commands as values, from their settings.
 
-use crate::patterns::Pattern;
+pub use crate::support::{assert_same, draw, granted, name, push};
 use iceoryx2_attribute::attribute::AttributeVerifier;
 use iceoryx2_commands::command::{
     Command, EventSetter, PublishSubscribeSetter, RequestResponseSetter, Settings,
 };
-use iceoryx2_description::description::ServiceName;
 use iceoryx2_description::time::Time;
-use iceoryx2_world::listing::Entry;
-use std::alloc::{AllocError, Global};
-use std::fmt::Debug;
+use std::alloc::Global;
 use std::process::Abort;
 use test_support::calls::{self, Place};
-
-/// Ends a test that finds another value than it wants.
-pub fn assert_same<T: Debug + PartialEq + Drop>(rt: &impl Abort, found: T, wanted: T) {
-    assert_eq!(rt; found, wanted);
-}
-
-/// A name.
-pub fn name(rt: &impl Abort, alloc: Global, text: &str) -> ServiceName {
-    match ServiceName::new(alloc, text) {
-        Ok(name) => name,
-        Err(_) => panic!(rt; "no name"),
-    }
-}
-
-/// Puts something behind the rest.
-pub fn push<T: Drop>(rt: &impl Abort, all: &mut Vec<T>, last: T) {
-    match all.push(last) {
-        Ok(()) => {}
-        Err(_) => panic!(rt; "no memory"),
-    }
-}
-
-/// What is listed.
-pub fn entries(rt: &impl Abort, listing: Result<Vec<Entry>, AllocError>) -> Vec<Entry> {
-    match listing {
-        Ok(entries) => entries,
-        Err(_) => panic!(rt; "no memory"),
-    }
-}
+use test_support::patterns::Pattern;
 
 /// The setters of none of a pattern's settings.
 pub fn no_settings(alloc: Global, pattern: Pattern) -> Settings {
@@ -85,13 +53,4 @@ pub fn command_with(
 ) -> Command {
     let name = name(rt, alloc, text);
     calls::command(called, name, settings, attributes, Ok(Time::default()))
-}
-
-/// Draws a number by chance: the next of those that follow a seed.
-pub fn draw(seed: &mut u64) -> u64 {
-    let next = seed
-        .wrapping_mul(6364136223846793005)
-        .wrapping_add(1442695040888963407);
-    *seed = next;
-    next >> 33
 }

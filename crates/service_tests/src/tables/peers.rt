@@ -1,7 +1,7 @@
 //! The steps of peers, and what is left in a table after them.
 
-use crate::patterns::{NAME, Offer, Pattern, described, service, settings_of};
-use crate::support::{entries, push};
+use crate::support::{granted, push};
+use crate::tables::patterns::{NAME, Offer, Pattern, described, service, settings_of};
 use iceoryx2_description::description::ServiceHash;
 use iceoryx2_table::table::{Act, Step};
 use iceoryx2_world::listing::Entry;
@@ -105,7 +105,7 @@ pub type Left = (RowSummary, Segment, (bool, u64), u64, u64);
 
 /// What is left of a pattern's service in a table with no other.
 pub fn left<B: Body>(rt: &impl Abort, pattern: Pattern, table: &B::Storage) -> Left {
-    let (row, segment) = only_one(rt, entries(rt, B::list(table)).as_slice());
+    let (row, segment) = only_one(rt, granted(rt, B::list(table)).as_slice());
     let held = held::<B>(table, 1, &service(pattern));
     (row, segment, held, B::counter(table), B::skipped(table))
 }

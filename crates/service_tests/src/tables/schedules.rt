@@ -1,10 +1,12 @@
 //! Commands that are drawn by chance beside peers whose steps are drawn too, over each body.
 
 use self::Deed::*;
-use crate::patterns::{NAME, Pattern, other_service, service};
-use crate::peers::{DEFAULTS, Deed, FOR_TWO, PUBLISHED, REPLACED, Subject, push_steps};
-use crate::plain_session::Commanded;
-use crate::support::{assert_same, command_with, draw, entries, for_nodes, no_settings, push};
+use crate::tables::patterns::{NAME, Pattern, other_service, service};
+use crate::tables::peers::{DEFAULTS, Deed, FOR_TWO, PUBLISHED, REPLACED, Subject, push_steps};
+use crate::tables::plain_session::Commanded;
+use crate::tables::support::{
+    assert_same, command_with, draw, for_nodes, granted, no_settings, push,
+};
 use iceoryx2_attribute::attribute::AttributeVerifier;
 use iceoryx2_commands::command::{Command, How, Reply, SLOTS, Settings};
 use iceoryx2_large_table::local::ManyLocal;
@@ -149,7 +151,7 @@ type Seen = (Reply, Vec<Entry>, u64, u64, usize);
 fn seen<B: Commanded>(rt: &impl Abort, commands: &mut B::Commands, command: Command) -> Seen {
     let reply = B::apply(rt, commands, command);
     let table = B::table(commands);
-    let listing = entries(rt, B::list(table));
+    let listing = granted(rt, B::list(table));
     (
         reply,
         listing,
@@ -162,7 +164,7 @@ fn seen<B: Commanded>(rt: &impl Abort, commands: &mut B::Commands, command: Comm
 /// What is listed once all slots are closed, and the counter then.
 fn finished<B: Commanded>(rt: &impl Abort, commands: B::Commands) -> (Vec<Entry>, u64) {
     let table = B::finish(rt, commands);
-    let left = (entries(rt, B::list(&table)), B::counter(&table));
+    let left = (granted(rt, B::list(&table)), B::counter(&table));
     B::let_go(table);
     left
 }

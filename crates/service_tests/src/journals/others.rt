@@ -1,32 +1,16 @@
 //! What others do beside a process: steps of their nodes, and the log in which these come before each access.
 
-use crate::recording::Recording;
-use crate::support::{Subject, copies, described, granted, push};
+use self::Doing::*;
+use crate::journals::recording::Recording;
+use crate::journals::support::{copies, granted};
+use crate::tables::patterns::Offer;
+pub use crate::tables::peers::{Deed as Doing, PUBLISHED, push_steps};
 use iceoryx2_access::storage::Service;
 use iceoryx2_commands::command::{Command, Reply};
 use iceoryx2_log::memory::{Batch, MemoryLog};
-use iceoryx2_table::table::{Act, Step};
 use plain_table::places::{Closing, Places};
 use std::alloc::Global;
 use std::process::Abort;
-
-/// What a node of another does, with for how many nodes it makes or publishes a service.
-#[derive(Clone, Copy)]
-pub enum Doing {
-    Read,
-    Lock,
-    RemoveSegment,
-    RemoveDescription,
-    Make(u64),
-    Publish(u64),
-    Join,
-    Leave,
-}
-
-use self::Doing::*;
-
-/// It publishes the service for 36 nodes.
-pub const PUBLISHED: &[Doing] = &[Lock, Make(36), Publish(36)];
 
 /// It takes it away, and publishes another for two.
 pub const REPLACED: &[Doing] = &[
@@ -35,40 +19,8 @@ pub const REPLACED: &[Doing] = &[
     RemoveDescription,
     Lock,
     Make(2),
-    Publish(2),
+    Publish(Offer::DefaultsFor(2)),
 ];
-
-/// That as an act.
-fn act(rt: &impl Abort, alloc: Global, subject: Subject, doing: Doing) -> Act {
-    match doing {
-        Doing::Read => Act::Read,
-        Doing::Lock => Act::Lock,
-        Doing::RemoveSegment => Act::RemoveSegment,
-        Doing::RemoveDescription => Act::RemoveDescription,
-        Doing::Make(max_nodes) => Act::Make { max_nodes },
-        Doing::Publish(nodes) => Act::Publish(described(rt, alloc, subject, nodes)),
-        Doing::Join => Act::Join,
-        Doing::Leave => Act::Leave,
-    }
-}
-
-/// Puts the steps of a node after others.
-pub fn push_steps(
-    rt: &impl Abort,
-    alloc: Global,
-    subject: Subject,
-    steps: &mut Vec<Step>,
-    (node, doings): (u64, &[Doing]),
-) {
-    for &doing in doings {
-        let step = Step {
-            peer: node,
-            hash: subject.1,
-            act: act(rt, alloc, subject, doing),
-        };
-        push(rt, steps, step);
-    }
-}
 
 /// A log to which the entries of each batch of a recording come before the same access.
 pub fn log_beside(rt: &impl Abort, alloc: Global, recording: &Recording) -> MemoryLog {

@@ -1,12 +1,13 @@
 //! Commands that are drawn by chance beside other nodes, whose steps are drawn too: over a journal as over the plain
 //! table to which the same accesses are made in the same order.
 
-use crate::others::{Doing, PUBLISHED, REPLACED, log_beside, push_steps, reply_of};
-use crate::recording::{Recorded, Recording};
-use crate::support::{
+use crate::journals::others::{Doing, PUBLISHED, REPLACED, log_beside, push_steps, reply_of};
+use crate::journals::recording::{Recorded, Recording};
+use crate::journals::support::{
     OTHERS, SUBJECTS, Subject, Tally, assert_same, command, copies, count, draw, drawn, granted,
     journal_of, listed_anew, push,
 };
+use crate::tables::patterns::Offer;
 use iceoryx2_commands::command::{Command, How, Reply, SLOTS};
 use iceoryx2_description::config::Config;
 use iceoryx2_journal::journal::Journal;
@@ -38,7 +39,11 @@ const BATCHES: u64 = 40;
 const DOINGS: &[&[Doing]] = &[
     PUBLISHED,
     PUBLISHED,
-    &[Doing::Lock, Doing::Make(2), Doing::Publish(2)],
+    &[
+        Doing::Lock,
+        Doing::Make(2),
+        Doing::Publish(Offer::DefaultsFor(2)),
+    ],
     &[Doing::Read, Doing::Join],
     &[Doing::Leave],
     &[Doing::Leave, Doing::RemoveSegment, Doing::RemoveDescription],
@@ -49,7 +54,7 @@ const DOINGS: &[&[Doing]] = &[
         Doing::Lock,
         Doing::Make(5),
         Doing::RemoveDescription,
-        Doing::Publish(36),
+        Doing::Publish(Offer::DefaultsFor(36)),
         Doing::Join,
     ],
 ];

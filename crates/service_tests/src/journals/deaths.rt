@@ -1,11 +1,13 @@
 //! Nodes that die: at every place of a run another cleans up for them. What each whole run writes down, and what stands
 //! after it, comes from the plain table; how much is given back stands in rows.
 
-use crate::list_log::{List, ListLog};
-use crate::others::reply_of;
-use crate::recording::{Recorded, Recording};
-use crate::rows::{Answer, answer_of};
-use crate::support::{SUBJECTS, Subject, assert_same, command, copies, granted, listed_anew, push};
+use crate::journals::list_log::{List, ListLog};
+use crate::journals::others::reply_of;
+use crate::journals::recording::{Recorded, Recording};
+use crate::journals::rows::{Answer, answer_of};
+use crate::journals::support::{
+    SUBJECTS, Subject, assert_same, command, copies, granted, listed_anew,
+};
 use iceoryx2_commands::command::{Command, How, Reply};
 use iceoryx2_journal::cleaning::{AdoptError, CleanError, Cleaned};
 use iceoryx2_journal::journal::{Journal, Shared};

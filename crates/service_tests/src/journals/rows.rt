@@ -4,9 +4,9 @@
 //! by each pattern, and both have to come to the same, and the journal's world to what its log comes to.
 
 use self::Doing::*;
-use crate::others::{Doing, PUBLISHED, REPLACED, log_beside, push_steps, reply_of};
-use crate::recording::{Recorded, Recording};
-use crate::support::{
+use crate::journals::others::{Doing, PUBLISHED, REPLACED, log_beside, push_steps, reply_of};
+use crate::journals::recording::{Recorded, Recording};
+use crate::journals::support::{
     SUBJECTS, Subject, assert_same, command, copies, granted, journal_of, listed_anew, push,
 };
 use iceoryx2_commands::command::{Command, How, Reply};

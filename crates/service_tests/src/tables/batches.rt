@@ -1,9 +1,9 @@
 //! Batches of peers' steps at each table: how they wait, and what those do that are drawn by chance, compared with
 //! a model of a table in a few lines.
 
-use crate::patterns::{ALL, Offer, Pattern, service};
-use crate::peers::{DEFAULTS, Deed, FOR_TWO, Left, PUBLISHED, left, push_steps, subject};
 use crate::support::{assert_same, draw, push};
+use crate::tables::patterns::{ALL, Offer, Pattern, service};
+use crate::tables::peers::{DEFAULTS, Deed, FOR_TWO, Left, PUBLISHED, left, push_steps, subject};
 use iceoryx2_access::storage::{Existence, Storage};
 use iceoryx2_large_table::local::ManyLocal;
 use iceoryx2_table::local::Local;

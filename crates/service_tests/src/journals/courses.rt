@@ -1,6 +1,6 @@
 //! Courses from a world to a later one, after histories that are drawn by chance.
 
-use crate::support::{
+use crate::journals::support::{
     SUBJECTS, Subject, assert_same, copies, described, draw, drawn, granted, push,
 };
 use iceoryx2_byte_form::bytes;
