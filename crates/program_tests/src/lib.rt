@@ -1,10 +1,14 @@
-//! Tests of the streams of `negotiate` and `explain`: what they print, and their status.
+//! Tests of what the programs print that no case can state.
 //!
-//! Their reader or writer fails in mid-stream (`faults`, `explanations`), and a fault is told in a line (`reports`). Each
-//! reply is written and flushed before the next line is read, and nothing after a line that is no command is read
-//! (`order`). A program goes on where a byte comes or goes at a time, each interrupted a thousand times, and after more
-//! than a million lines (`retries`). Wrong lines may have replies (`wrong_lines`), and so have values that no line
-//! gives (`replies`).
+//! The reader or writer of `negotiate` and `explain` fails in mid-stream (`faults`, `explanations`), and a fault is told
+//! in a line (`reports`). Each reply is written and flushed before the next line is read, and nothing after a line that
+//! is no command is read (`order`). A program goes on where a byte comes or goes at a time, each interrupted a thousand
+//! times, and after more than a million lines (`retries`). Wrong lines may have replies (`wrong_lines`), and so have
+//! values that no line gives (`replies`).
+//!
+//! Of `wulameron`, what is printed of logs and of a world, and what is found wrong with a log, with values from outside
+//! the program (`trail`). Logs that Python wrote are checked whole and with each byte changed, and what is printed of
+//! them is compared.
 #![tactic(auto)]
 
 #[cfg(test)]
@@ -21,5 +25,7 @@ mod reports;
 mod retries;
 #[cfg(test)]
 mod support;
+#[cfg(test)]
+mod trail;
 #[cfg(test)]
 mod wrong_lines;

@@ -1,7 +1,7 @@
 //! What is printed of a log.
 
-use crate::logs::{LOG, MARK};
 use crate::support::assert_same;
+use crate::trail::logs::{LOG, MARK};
 use iceoryx2_file_log::header::HeaderError;
 use iceoryx2_journal::follow::follow;
 use iceoryx2_log::entry::Entry;

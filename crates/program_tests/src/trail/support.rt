@@ -1,4 +1,4 @@
-//! What the tests share.
+//! Texts, names and settings of services that are printed.
 
 use iceoryx2_description::description::{MessagingPattern, ServiceName};
 use iceoryx2_description::{config, publish_subscribe, request_response};
@@ -6,14 +6,7 @@ use iceoryx2_types::types::publish_subscribe::Header;
 use iceoryx2_types::types::request_response::{RequestHeader, ResponseHeader};
 use iceoryx2_types::types::{MessageTypeDetails, Slice, ZeroCopySend};
 use std::alloc::Global;
-use std::fmt::Debug;
 use std::process::Abort;
-
-/// Ends a test that finds another value than it wants. Only here is a value compared and printed, since
-/// a function that does so takes long to prove.
-pub fn assert_same<T: Debug + PartialEq + Drop>(rt: &impl Abort, found: T, wanted: T) {
-    assert_eq!(rt; found, wanted);
-}
 
 /// A text so many times.
 pub fn repeated(rt: &impl Abort, alloc: Global, text: &str, count: usize) -> String {

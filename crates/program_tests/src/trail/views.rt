@@ -1,7 +1,8 @@
 //! What is printed of a world. Columns were counted by hand: a Chinese character takes two. Objects of JSON were made
 //! by another program, in Python, with `json.dumps(.., sort_keys=True, separators=(",", ":"), ensure_ascii=False)`.
 
-use crate::support::{assert_same, joined, name, publish_subscribe, repeated, request_response};
+use crate::support::assert_same;
+use crate::trail::support::{joined, name, publish_subscribe, repeated, request_response};
 use iceoryx2_attribute::attribute::{AttributeSet, AttributeSpecifier};
 use iceoryx2_description::config::{Config, PublishSubscribe, RequestResponse};
 use iceoryx2_description::description::{MessagingPattern, ServiceHash, StaticConfig};

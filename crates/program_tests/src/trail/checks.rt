@@ -1,7 +1,7 @@
 //! What is found wrong with logs. The places were found by another reader, in Python.
 
-use crate::logs::{LOG, LONGER_HEADER, LONGEST_HEADER, MARK, SNAPSHOT_HEADER};
 use crate::support::assert_same;
+use crate::trail::logs::{LOG, LONGER_HEADER, LONGEST_HEADER, MARK, SNAPSHOT_HEADER};
 use iceoryx2_file_log::header::HeaderError;
 use std::alloc::Global;
 use std::process::Abort;

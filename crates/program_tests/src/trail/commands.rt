@@ -1,9 +1,9 @@
 //! What the commands print of logs in files, each in a file of its own in the folder for temporary files. A scenario
 //! is `None` where the system refuses something that it has to do.
 
-use crate::logs::{ANOTHER_HEADER, LOG, MARK, MOVED_HEADER};
-use crate::printing::{CHANGES, DIAGRAM, JSON, LINES};
 use crate::support::assert_same;
+use crate::trail::logs::{ANOTHER_HEADER, LOG, MARK, MOVED_HEADER};
+use crate::trail::printing::{CHANGES, DIAGRAM, JSON, LINES};
 use iceoryx2_file_log::options::FileLogOptions;
 use std::random::RandomSource;
 use std::{env, fs};
