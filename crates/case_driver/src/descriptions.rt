@@ -8,8 +8,8 @@ use iceoryx2_description::description::StaticConfig;
 use iceoryx2_table::local::Local;
 use iceoryx2_table::table::Table;
 use negotiate_lines::line::{Line, parse};
-use plain_table::body::Body;
-use plain_table::places::Places;
+use test_support::body::Body;
+use test_support::places::Places;
 use std::alloc::{AllocError, Global};
 
 /// The bytes of descriptions, by their names.

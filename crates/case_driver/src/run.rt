@@ -16,7 +16,7 @@ use iceoryx2_access::storage::{Service, Sha1Hasher, Storage};
 use iceoryx2_byte_form::bytes::encode;
 use iceoryx2_testing::script::Faulty;
 use negotiate_serve::reply::describe;
-use plain_table::places::{Closing, Places};
+use test_support::places::{Closing, Places};
 use std::alloc::{AllocError, Global};
 use std::marker::PhantomData;
 use std::mem;

@@ -11,8 +11,8 @@ use iceoryx2_table::own_parts::OwnParts;
 use iceoryx2_table::table::TableOver;
 use iceoryx2_table::table::stored::StoredWorld;
 use iceoryx2_testing::script::Script;
-use plain_table::body::Body;
-use plain_table::plain::Plain;
+use test_support::body::Body;
+use test_support::plain::Plain;
 use std::alloc::{AllocError, Global};
 use std::mem;
 

@@ -8,8 +8,8 @@ use iceoryx2_table::own_parts::OwnParts;
 use iceoryx2_table::table::TableOver;
 use iceoryx2_testing::script::Script;
 use iceoryx2_world::listing::Entry;
-use plain_table::body::Body;
-use plain_table::plain::{Plain, PlainTable};
+use test_support::body::Body;
+use test_support::plain::{Plain, PlainTable};
 use std::alloc::{AllocError, Global};
 
 /// What is seen of a storage.

@@ -14,13 +14,13 @@ use iceoryx2_journal::journal::{Journal, Shared};
 use iceoryx2_log::entry::{Deed, Entry};
 use iceoryx2_log::memory::MemoryLog;
 use iceoryx2_world::listing;
-use plain_table::body::Body;
-use plain_table::places::Places;
-use plain_table::plain::Plain;
 use std::alloc::Global;
 use std::cell::RefCell;
 use std::process::Abort;
 use std::rc::Rc;
+use test_support::body::Body;
+use test_support::places::Places;
+use test_support::plain::Plain;
 use test_support::refusals::Word;
 
 /// The node that dies.

@@ -12,13 +12,13 @@ use iceoryx2_description::description::ServiceHash;
 use iceoryx2_journal::journal::{Journal, Shared};
 use iceoryx2_world::listing::{self, ListedRow};
 use iceoryx2_world::world::Bytes;
-use plain_table::body::Body;
-use plain_table::places::Places;
-use plain_table::plain::Plain;
 use std::alloc::Global;
 use std::cell::RefCell;
 use std::process::Abort;
 use std::rc::Rc;
+use test_support::body::Body;
+use test_support::places::Places;
+use test_support::plain::Plain;
 
 /// How many schedules a test draws, each from a seed of its own.
 const SCHEDULES: u64 = 100;

@@ -8,9 +8,9 @@ pub use crate::tables::peers::{Deed as Doing, PUBLISHED, push_steps};
 use iceoryx2_access::storage::Service;
 use iceoryx2_commands::command::{Command, Reply};
 use iceoryx2_log::memory::{Batch, MemoryLog};
-use plain_table::places::{Closing, Places};
 use std::alloc::Global;
 use std::process::Abort;
+use test_support::places::{Closing, Places};
 
 /// It takes it away, and publishes another for two.
 pub const REPLACED: &[Doing] = &[

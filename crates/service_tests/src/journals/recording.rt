@@ -9,9 +9,9 @@ use iceoryx2_description::description::{ServiceHash, StaticConfig};
 use iceoryx2_log::entry::{Deed, Entry, FormBytes};
 use iceoryx2_table::table::{Act, Step};
 use iceoryx2_world::world::{Participant, Phase};
-use plain_table::body::Body;
-use plain_table::plain::{Plain, PlainTable};
 use std::alloc::Global;
+use test_support::body::Body;
+use test_support::plain::{Plain, PlainTable};
 
 /// The plain table, with an entry for each access that is granted and changes what others see, in their order. Before
 /// each access the next of the batches that wait is made: each of its steps as the accesses of the node that it names.

@@ -17,12 +17,12 @@ use iceoryx2_session::session::Session;
 use iceoryx2_table::table::Step;
 use iceoryx2_testing::script::{Faulty, FaultyService};
 use iceoryx2_world::listing;
-use plain_table::body::Body;
-use plain_table::places::Places;
-use plain_table::plain::Plain;
 use std::alloc::Global;
 use std::process::Abort;
+use test_support::body::Body;
 use test_support::listing::{RowSummary, Segment, only_one};
+use test_support::places::Places;
+use test_support::plain::Plain;
 use test_support::refusals::{Word, pattern_and_reason};
 
 /// Before which accesses of node 1 the node 7 of another does what.

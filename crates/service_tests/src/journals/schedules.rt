@@ -16,11 +16,11 @@ use iceoryx2_log::memory::MemoryLog;
 use iceoryx2_session::session::Session;
 use iceoryx2_table::table::Step;
 use iceoryx2_world::listing;
-use plain_table::body::Body;
-use plain_table::places::Places;
-use plain_table::plain::Plain;
 use std::alloc::Global;
 use std::process::Abort;
+use test_support::body::Body;
+use test_support::places::Places;
+use test_support::plain::Plain;
 
 /// How many schedules a test draws, each from a seed of its own.
 const SCHEDULES: u64 = 250;

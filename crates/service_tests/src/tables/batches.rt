@@ -8,11 +8,11 @@ use iceoryx2_access::storage::{Existence, Storage};
 use iceoryx2_large_table::local::ManyLocal;
 use iceoryx2_table::local::Local;
 use iceoryx2_table::table::Step;
-use plain_table::body::Body;
-use plain_table::plain::Plain;
 use std::alloc::Global;
 use std::process::Abort;
+use test_support::body::Body;
 use test_support::listing::{RowSummary, Segment};
+use test_support::plain::Plain;
 
 /// So many batches, of which the first has steps of a peer at the events that are called for, and the others none.
 fn waiting(rt: &impl Abort, alloc: Global, count: usize, doing: (u64, &[Deed])) -> Vec<Vec<Step>> {

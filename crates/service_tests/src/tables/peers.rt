@@ -5,9 +5,9 @@ use crate::tables::patterns::{NAME, Offer, Pattern, described, service, settings
 use iceoryx2_description::description::ServiceHash;
 use iceoryx2_table::table::{Act, Step};
 use iceoryx2_world::listing::Entry;
-use plain_table::body::Body;
 use std::alloc::Global;
 use std::process::Abort;
+use test_support::body::Body;
 use test_support::listing;
 use test_support::listing::{RowSummary, Segment};
 

@@ -8,11 +8,11 @@ use iceoryx2_large_table::table::LargeTable;
 use iceoryx2_session::session::Session;
 use iceoryx2_table::local::Local;
 use iceoryx2_table::table::Table;
-use plain_table::body::Body;
-use plain_table::places::{Closing, Places};
-use plain_table::plain::{Plain, PlainTable};
 use std::alloc::Global;
 use std::process::Abort;
+use test_support::body::Body;
+use test_support::places::{Closing, Places};
+use test_support::plain::{Plain, PlainTable};
 
 /// A body over which commands are carried out, with places for what they open.
 pub trait Commanded: Body {

@@ -13,9 +13,9 @@ use iceoryx2_large_table::local::ManyLocal;
 use iceoryx2_table::local::Local;
 use iceoryx2_table::table::Step;
 use iceoryx2_world::listing::Entry;
-use plain_table::plain::Plain;
 use std::alloc::Global;
 use std::process::Abort;
+use test_support::plain::Plain;
 
 /// How many schedules a test draws, each from a seed of its own.
 const SCHEDULES: u64 = 500;

@@ -1,6 +1,7 @@
 //! Calls and closes over any storage, with places for what they open: a few lines, written from the terms of a
 //! session's commands.
 
+use crate::calls::{Ask, Called, Calls, Now, messages, requests};
 use iceoryx2_access::storage::{Service, Storage};
 use iceoryx2_attribute::attribute::{AttributeSpecifier, AttributeVerifier};
 use iceoryx2_builder::builder::Node;
@@ -9,7 +10,6 @@ use iceoryx2_description::config::Config;
 use iceoryx2_description::description::StaticConfig;
 use iceoryx2_rounds::port_factory::{CloseError, Registration};
 use std::alloc::{AllocError, Global};
-use test_support::calls::{Ask, Called, Calls, Now, messages, requests};
 
 /// A factory in its place. Where it is let go, its ticket stays.
 struct Kept {
