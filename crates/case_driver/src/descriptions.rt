@@ -8,9 +8,9 @@ use iceoryx2_description::description::StaticConfig;
 use iceoryx2_table::local::Local;
 use iceoryx2_table::table::Table;
 use negotiate_lines::line::{Line, parse};
+use std::alloc::{AllocError, Global};
 use test_support::body::Body;
 use test_support::places::Places;
-use std::alloc::{AllocError, Global};
 
 /// The bytes of descriptions, by their names.
 #[derive(Drop)]

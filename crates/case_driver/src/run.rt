@@ -16,10 +16,10 @@ use iceoryx2_access::storage::{Service, Sha1Hasher, Storage};
 use iceoryx2_byte_form::bytes::encode;
 use iceoryx2_testing::script::Faulty;
 use negotiate_serve::reply::describe;
-use test_support::places::{Closing, Places};
 use std::alloc::{AllocError, Global};
 use std::marker::PhantomData;
 use std::mem;
+use test_support::places::{Closing, Places};
 
 /// Services that stand in a storage of this type.
 struct Standing<S> {

@@ -11,10 +11,10 @@ use iceoryx2_table::own_parts::OwnParts;
 use iceoryx2_table::table::TableOver;
 use iceoryx2_table::table::stored::StoredWorld;
 use iceoryx2_testing::script::Script;
-use test_support::body::Body;
-use test_support::plain::Plain;
 use std::alloc::{AllocError, Global};
 use std::mem;
+use test_support::body::Body;
+use test_support::plain::Plain;
 
 /// The nodes of the journal's process.
 const OWN_NODES: [u64; 6] = [1, 2, 3, 4, 5, 6];

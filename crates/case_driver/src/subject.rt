@@ -8,9 +8,9 @@ use iceoryx2_table::own_parts::OwnParts;
 use iceoryx2_table::table::TableOver;
 use iceoryx2_testing::script::Script;
 use iceoryx2_world::listing::Entry;
+use std::alloc::{AllocError, Global};
 use test_support::body::Body;
 use test_support::plain::{Plain, PlainTable};
-use std::alloc::{AllocError, Global};
 
 /// What is seen of a storage.
 #[derive(Drop)]

@@ -75,11 +75,7 @@ fn write_flags(names: &[&str], agreed: &[bool], text: &mut String) -> Result<(),
 
 /// Events that are sent, of which the default is none, and a deadline with the time at which its service was created.
 fn write_events(agreed: &event::StaticConfig, text: &mut String) -> Result<(), AllocError> {
-    write_numbers(
-        &EVENT_NUMBERS,
-        (&numbers_of_events(agreed), &EVENTS),
-        text,
-    )?;
+    write_numbers(&EVENT_NUMBERS, (&numbers_of_events(agreed), &EVENTS), text)?;
     let sent = [
         ("notifier_created_event", agreed.notifier_created_event),
         ("notifier_dropped_event", agreed.notifier_dropped_event),
@@ -128,8 +124,16 @@ fn write_samples(
     agreed: &publish_subscribe::StaticConfig,
     text: &mut String,
 ) -> Result<(), AllocError> {
-    write_numbers(&MESSAGE_NUMBERS, (&numbers_of_messages(agreed), &MESSAGES), text)?;
-    write_flags(&["enable_safe_overflow"], &[agreed.enable_safe_overflow], text)?;
+    write_numbers(
+        &MESSAGE_NUMBERS,
+        (&numbers_of_messages(agreed), &MESSAGES),
+        text,
+    )?;
+    write_flags(
+        &["enable_safe_overflow"],
+        &[agreed.enable_safe_overflow],
+        text,
+    )?;
     let message = &agreed.message_type_details;
     write_type("payload", &message.payload, PAYLOAD, text)?;
     write_type("user_header", &message.user_header, USER_HEADER, text)
@@ -140,7 +144,11 @@ fn write_requests(
     text: &mut String,
 ) -> Result<(), AllocError> {
     write_flags(&REQUEST_FLAGS, &flags_of_requests(agreed), text)?;
-    write_numbers(&REQUEST_NUMBERS, (&numbers_of_requests(agreed), &REQUESTS), text)?;
+    write_numbers(
+        &REQUEST_NUMBERS,
+        (&numbers_of_requests(agreed), &REQUESTS),
+        text,
+    )?;
     let request = &agreed.request_message_type_details;
     write_type("request_payload", &request.payload, PAYLOAD, text)?;
     write_type("request_header", &request.user_header, USER_HEADER, text)?;
