@@ -115,10 +115,15 @@ fn write_counts(seen: &Seen, text: &mut String) -> Result<(), AllocError> {
 /// Writes those of a script's answers that weren't taken.
 fn write_answers(answers: &[String], unsaid: usize, text: &mut String) -> Result<(), AllocError> {
     let said = answers.len().saturating_sub(unsaid);
-    let mut separator = "; ";
+    let mut is_first = true;
     for answer in answers.iter().skip(said) {
-        write!(text, "{separator}{answer}")?;
-        separator = ", ";
+        if is_first {
+            text.push_str("; ")?;
+        } else {
+            text.push_str(", ")?;
+        }
+        text.push_str(answer.as_str())?;
+        is_first = false;
     }
     Ok(())
 }
