@@ -31,7 +31,7 @@ sys.path.insert(0, str(TOP / "tools"))
 
 from logs.compaction import fill  # noqa: E402
 from logs.history import FACTOR, SHORT_LENGTH  # noqa: E402
-from logs.self_test import created, event_form, header_bytes  # noqa: E402
+from logs.writing import created, event_form, header_bytes  # noqa: E402
 
 # How many bytes stand before the entries of a log.
 HEADER_LENGTH = 48

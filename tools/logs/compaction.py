@@ -8,9 +8,9 @@ from logs.deaths import DEAD, OTHER, alone, beside, check_clean, check_end, plac
 from logs.form import MOST_ATTRIBUTES, read_log
 from logs.history import FILLER, SHORT_LENGTH, check_beside, kept_folder, standing
 from logs.runs import NO_CLEAN, Living, at_once
-from logs.self_test import created, ended, event_form, text_bytes
 from logs.storm import PREFIXES, Process, check_entries, check_listings, check_replies, check_world
 from logs.world import World
+from logs.writing import created, ended, event_form, text_bytes
 
 # Who does nothing while others compact, and who makes the log long.
 IDLE, WORKER = 11, 12

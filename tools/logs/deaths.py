@@ -13,9 +13,9 @@ from functools import partial
 from logs.form import FILE_HEADER_LENGTH, read_log
 from logs.history import standing
 from logs.runs import FAULT, NO_CLEAN, Living, at_once, leave_node, node_path, snapshot
-from logs.self_test import entry_bytes
 from logs.storm import PREFIXES, PROCESSES, Process, alive_text, drawn_lines
 from logs.storm import check_entries, check_given_back, check_replies
+from logs.writing import entry_bytes
 
 # Who dies, who made its service and lives, and who comes then.
 DEAD, MAKER, OTHER = 1, 2, 3

@@ -9,7 +9,7 @@ from logs.faults import NOBODY, can_be_nobody
 from logs.form import read_log
 from logs.history import SHORT_LENGTH, check_beside, kept_folder, standing
 from logs.runs import FAULT, Living, leave_node, snapshot
-from logs.self_test import MARK, ZEROS, entry_bytes, header_bytes
+from logs.writing import MARK, ZEROS, entry_bytes, header_bytes
 
 NODE, OTHER = 31, 32
 PAIR = [f"event create {NODE} 0 fresh", "close 0", "list"]

@@ -1,15 +1,13 @@
-"""Tests of the reader of logs, with a writer of its own.
+"""Tests of the reader of logs, over bytes by a writer that shares no line with it (logs/writing.py).
 
-The writer makes bytes by docs/LOG_FORM.md and docs/BYTE_FORM.md with struct, and shares no line with the reader.
 The vectors are those of the two pages and of crates/data_tests/src/log_forms.rt. Prints each test that fails, and
 ends with status 1 then.
 """
-import hashlib
-import struct
-
 from logs.form import Entry, Header, Malformed, Wrong, front_of, read_description, read_header, read_log
 from logs.history import same_worlds
 from logs.world import LAST_NUMBER, Phase, Row, Segment, Ticket, World, later_fault
+from logs.writing import HASH, KINDS, MARK, ZEROS, created, ended, entry_bytes, event_form, form_bytes, header_bytes, left, opened
+from logs.writing import SETTINGS, pubsub_form, rr_form, sealed, settings_bytes
 
 LOCK_VECTOR = bytes.fromhex(
     "00000025 ffffffda 48de62d870bebddb 03 0000000000000002 101112131415161718191a1b1c1d1e1f20212223 0000000000000005"
@@ -42,106 +40,11 @@ FORM_VECTOR = bytes.fromhex(
     "0000000000000010 0000000000000010 00000000000000ff 0000000000000024 00000000"
 )
 DEADLINE_VECTOR = bytes.fromhex("01 0000000000000001 000001f4 0000000000000000 00000000")
-HASH = bytes([0x11]) * 20
 OTHER = bytes([0x22]) * 20
-ZEROS = bytes(20)
-KINDS = "make_tag remove_tag lock make_segment remove_segment remove_description publish open_segment release".split()
-KINDS += ["spend", "moved"]
 KINDS_CREATED = ["make_tag", "lock", "make_segment", "publish"]
 
 
-# ---- the writer
-
-
-def header_bytes(name=bytes(16), counter=0, snapshot_length=0):
-    """The header of a file."""
-    summed = b"IOX2LOG\x02" + name + struct.pack(">QQ", counter, snapshot_length)
-    return summed + hashlib.sha1(summed).digest()[:8]
-
-
-def sealed(body):
-    """A body with what stands before it."""
-    length = struct.pack(">I", len(body))
-    return length + struct.pack(">I", len(body) ^ 0xFFFFFFFF) + hashlib.sha1(length + body).digest()[:8] + body
-
-
-def entry_bytes(deed, node, *details, found=HASH):
-    """An entry; its details are numbers, and bytes for a description."""
-    body = struct.pack(">BQ20s", KINDS.index(deed) + 1, node, found)
-    return sealed(body + b"".join(one if isinstance(one, bytes) else struct.pack(">Q", one) for one in details))
-
-
-def text_bytes(text):
-    """A text."""
-    return struct.pack(">H", len(text.encode())) + text.encode()
-
-
-def type_bytes(dynamic, name, size, alignment):
-    """A type."""
-    return bytes([dynamic]) + text_bytes(name) + struct.pack(">QQ", size, alignment)
-
-
-def form_bytes(rest, found=HASH, name="a", attributes=(), creator=None):
-    """A description, whose pattern's byte and what stands after it are the rest."""
-    front = b"IOX2\x01" if creator is None else b"IOX2\x02" + struct.pack(">Q", creator)
-    pairs = b"".join(text_bytes(key) + text_bytes(value) for key, value in attributes)
-    return front + found + text_bytes(name) + struct.pack(">H", len(attributes)) + pairs + rest
-
-
-def event_form(max_nodes=36, deadline=b"\x00", **others):
-    """Events with the default settings, but for these."""
-    return form_bytes(b"\x01" + struct.pack(">QQQQ", 16, 16, 255, max_nodes) + bytes(3) + deadline, **others)
-
-
-def message_bytes(pattern, dynamic, name, size, alignment):
-    """The three types of a message without a user header."""
-    header = type_bytes(0, f"{pattern}::Header", 32, 8)
-    return header + type_bytes(0, "()", 0, 1) + type_bytes(dynamic, name, size, alignment)
-
-
-def pubsub_form(max_nodes=20, message=None, **others):
-    """Publish-subscribe, whose payload is a number of i64."""
-    settings = struct.pack(">QQQQQ?Q", 2, 8, 2, 0, 2, True, max_nodes)
-    return form_bytes(b"\x02" + settings + (message or message_bytes("publish_subscribe", 1, "i64", 8, 8)), **others)
-
-
-def rr_form(max_nodes=20, **others):
-    """Request-response, whose requests are of one value."""
-    settings = struct.pack(">???QQQQQQQ", True, True, False, 4, 2, 4, 2, 2, 8, max_nodes)
-    request = message_bytes("request_response", 0, "Goal", 16, 8)
-    return form_bytes(b"\x03" + settings + request + message_bytes("request_response", 1, "u8", 1, 1), **others)
-
-
-def created(node=1, number=0, form=None, found=HASH, max_nodes=36):
-    """The four entries of a create."""
-    return [
-        entry_bytes("make_tag", node, found=found),
-        entry_bytes("lock", node, number, found=found),
-        entry_bytes("make_segment", node, number, max_nodes, found=found),
-        entry_bytes("publish", node, number, form or event_form(max_nodes), found=found),
-    ]
-
-
-def opened(node, number, ticket, found=HASH):
-    """The two entries of an open."""
-    return [entry_bytes("make_tag", node, found=found), entry_bytes("open_segment", node, number, ticket, found=found)]
-
-
-def left(node, number, ticket, found=HASH):
-    """The two entries of a close by which others stay."""
-    return [entry_bytes("release", node, ticket, number, found=found), entry_bytes("remove_tag", node, found=found)]
-
-
-def ended(node, number, ticket, found=HASH):
-    """The four entries of the last close."""
-    removals = [entry_bytes(deed, node, found=found) for deed in ("remove_segment", "remove_description")]
-    return left(node, number, ticket, found) + removals
-
-
 # ---- the tests
-
-
-MARK = entry_bytes("moved", 0, found=ZEROS)
 
 
 def snapshot_file(snapshot, entries=()):
@@ -213,6 +116,11 @@ def test_vectors(tests):
     found = read_description(event_form(creator=7, attributes=(("b", "x"), ("b", "y")), deadline=DEADLINE_VECTOR))
     tests.same("a deadline", dict(found.settings)["deadline"], ((1, 500), (0, 0)))
     tests.same("attributes", (found.creator, found.attributes), (7, (("b", "x"), ("b", "y"))))
+    named = event_form(deadline=((1, 500), (0, 0)))
+    tests.same("a deadline by its name", named, event_form(deadline=DEADLINE_VECTOR))
+    found = read_description(form_bytes(settings_bytes("event", notifier_dead_event=9, max_listeners=3)))
+    wanted = {**SETTINGS["event"], "notifier_dead_event": 9, "max_listeners": 3}
+    tests.same("settings by their names", dict(found.settings), wanted)
     tests.same("lengths", [len(pubsub_form()), len(pubsub_form(creator=1)), len(event_form(creator=7))], [167, 175, 75])
     found = read_description(pubsub_form(9))
     wanted = ("pubsub", 9, (True, "i64", 8, 8))
@@ -228,7 +136,6 @@ def test_descriptions(tests):
             tests.names(f"a front of {end} bytes", refusal(lambda end=end: read_description(form[:end])), "cut off")
         tests.names("a byte more", refusal(lambda: read_description(form + b"\x00")), "after the last part")
     many = tuple((f"{count:03}", "") for count in range(65))
-    odd = message_bytes("publish_subscribe", 1, "i64", 8, 3)
     late = bytes.fromhex("01 0000000000000001 3b9aca00 0000000000000000 00000000")
     for form, word in (
         (b"IOX3" + FORM_VECTOR[4:], "magic"),
@@ -242,7 +149,7 @@ def test_descriptions(tests):
         (form_bytes(b"\x04"), "pattern 4"),
         (event_form(deadline=b"\x02"), "the byte 2"),
         (event_form(deadline=late), "1000000000 nanoseconds"),
-        (pubsub_form(message=odd), "an alignment of 3"),
+        (pubsub_form(payload=(True, "i64", 8, 3)), "an alignment of 3"),
     ):
         tests.names(word, refusal(lambda form=form: read_description(form)), word)
 
