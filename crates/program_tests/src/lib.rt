@@ -6,9 +6,8 @@
 //! times, and after more than a million lines (`retries`). Wrong lines may have replies (`wrong_lines`), and so have
 //! values that no line gives (`replies`).
 //!
-//! Of `wulameron`, what is printed of logs and of a world, and what is found wrong with a log, with values from outside
-//! the program (`trail`). Logs that Python wrote are checked whole and with each byte changed, and what is printed of
-//! them is compared.
+//! `wulameron log --follow` goes on if the end of the log is damaged at one look, and whole at the next (`trail`). The stored
+//! runs of `tools/runs` show all else that is printed of logs.
 #![tactic(auto)]
 
 #[cfg(test)]
