@@ -5,6 +5,7 @@ ends with status 1 then.
 """
 from logs.form import Entry, Header, Malformed, Wrong, front_of, read_description, read_header, read_log
 from logs.history import same_worlds
+from logs.words import entry
 from logs.world import LAST_NUMBER, Phase, Row, Segment, Ticket, World, later_fault
 from logs.writing import HASH, KINDS, MARK, ZEROS, created, ended, entry_bytes, event_form, form_bytes, header_bytes, left, opened
 from logs.writing import SETTINGS, pubsub_form, rr_form, sealed, settings_bytes
@@ -65,7 +66,7 @@ def refusal(call):
     """What a call finds wrong."""
     try:
         call()
-    except (Wrong, Malformed) as error:
+    except (Wrong, Malformed, ValueError) as error:
         return f"{error.at}: {error.why}" if isinstance(error, Wrong) else str(error)
     return "nothing"
 
@@ -127,6 +128,51 @@ def test_vectors(tests):
     tests.same("publish-subscribe", (found.pattern, found.max_nodes, found.types[2]), wanted)
     found = read_description(rr_form(3))
     tests.same("request-response", (found.pattern, found.max_nodes, len(found.types)), ("rr", 3, 6))
+
+
+def test_words(tests):
+    """Entries in words have the bytes of the pages, and those of the writer."""
+    service = "101112131415161718191a1b1c1d1e1f20212223"
+    types = "request_header=fixed,(),0,1 request_payload=fixed,Goal,16,8 response_header=fixed,(),0,1 response_payload=dynamic,u8,1,1"
+    pairs = (("b", "x y"), ("b", "y\n"))
+    timed = event_form(9, ((1, 500), (2, 0)), name="l m", creator=7, attributes=pairs)
+    for line, wanted in (
+        (f"node 1 makes tag {service}", MAKE_TAG_VECTOR),
+        (f"node 2 locks {service} number=5", LOCK_VECTOR),
+        (f"node 72623859790382856 opens {service} number=5 ticket=9", OPEN_VECTOR),
+        ("node 2 spends numbers up to 9", SPEND_VECTOR),
+        ("the log goes on in another file", MOVED_VECTOR),
+        ("node 1 makes segment 11.. number=3 max_nodes=7", entry_bytes("make_segment", 1, 3, 7)),
+        ("node 1 releases 22.. ticket=4 number=3", entry_bytes("release", 1, 4, 3, found=OTHER)),
+        ("node 1 removes tag 22..", entry_bytes("remove_tag", 1, found=OTHER)),
+        ("node 1 removes segment 11..", entry_bytes("remove_segment", 1)),
+        ("node 1 removes description 11..", entry_bytes("remove_description", 1)),
+        ("node 1 publishes event a 11.. number=3", entry_bytes("publish", 1, 3, FORM_VECTOR)),
+        ("node 1 publishes no description 11.. number=3", entry_bytes("publish", 1, 3, b"")),
+        (
+            r"node 1 publishes event l\x20m 11.. number=3 creator=7 max_nodes=9 deadline=1,500 now=2,0"
+            r" attribute=b:x\x20y attribute=b:y\n",
+            entry_bytes("publish", 1, 3, timed),
+        ),
+        (
+            "node 1 publishes pubsub a 11.. number=3 user_header=fixed,(),0,1 payload=dynamic,i64,8,8",
+            entry_bytes("publish", 1, 3, pubsub_form()),
+        ),
+        (f"node 1 publishes rr a 11.. number=3 max_nodes=3 {types}", entry_bytes("publish", 1, 3, rr_form(3))),
+    ):
+        tests.same(line, entry(line), wanted)
+
+
+def test_wrong_words(tests):
+    """Lines that are no entries, by what is wrong."""
+    for line, word in (
+        ("node 1 make tag 11..", "no entry"),
+        ("node 1 locks 11..", "it takes number"),
+        ("node 1 locks 11.. number=1 ticket=2", "it takes number"),
+        ("node 1 makes tag 1111", "2 bytes"),
+        ("node 1 publishes event a 11.. number=1 history_size=2", "event has no history_size"),
+    ):
+        tests.names(line, refusal(lambda line=line: entry(line)), word)
 
 
 def test_descriptions(tests):
@@ -356,7 +402,7 @@ def test_disagreements(tests):
 def main():
     """Runs all tests."""
     tests = Tests()
-    for test in (test_vectors, test_descriptions, test_headers, test_ends, test_compacted, test_same):
+    for test in (test_vectors, test_words, test_wrong_words, test_descriptions, test_headers, test_ends, test_compacted, test_same):
         test(tests)
     for test in (test_worlds, test_refusals, test_disagreements):
         test(tests)
