@@ -1,9 +1,8 @@
 //! What a crash of the machine may leave of the last append to a log's file, as bytes that are drawn: what readers make
 //! of them. How often which answer comes was counted by another program, in Python, by its own reader.
 
-use crate::file_headers::HEADER;
 use crate::file_logs::{append, fill, holds, lock, new_path, open, take_two};
-use crate::log_forms::LOCK;
+use crate::samples::{HEADER, LOCK};
 use crate::support::assert_same;
 use iceoryx2_file_log::options::Sharing;
 use iceoryx2_file_log::remainder::{Front, front_of};

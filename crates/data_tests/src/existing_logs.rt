@@ -1,8 +1,7 @@
 //! Logs in files that are opened only where there is one.
 
-use crate::file_headers::HEADER;
 use crate::file_logs::{fill, new_path, take_two};
-use crate::log_forms::LOCK;
+use crate::samples::{HEADER, LOCK};
 use crate::support::assert_same;
 use iceoryx2_file_log::error::FileFault;
 use iceoryx2_file_log::file_log::FileLog;

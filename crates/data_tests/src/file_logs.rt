@@ -2,8 +2,7 @@
 //! contract, so these tests have it from outside: headers and entries are those that were computed in Python.
 //! A scenario is `None` where the system refuses something that it has to do.
 
-use crate::file_headers::{HEADER, SNAPSHOT_HEADER};
-use crate::log_forms::{HASH, LOCK};
+use crate::samples::{HASH, HEADER, LOCK, SNAPSHOT_HEADER};
 use crate::support::{assert_prints, assert_same, joined};
 use iceoryx2_description::description::ServiceHash;
 use iceoryx2_file_log::cursor::State;
