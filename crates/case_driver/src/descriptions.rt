@@ -2,15 +2,11 @@
 
 use crate::words::{first_word, number};
 use crate::wrong::Wrong;
-use iceoryx2_byte_form::bytes::{decode, encode};
+use iceoryx2_byte_form::bytes::decode;
 use iceoryx2_commands::command::{Call, Command};
 use iceoryx2_description::description::StaticConfig;
-use iceoryx2_table::local::Local;
-use iceoryx2_table::table::Table;
-use negotiate_lines::line::{Line, parse};
 use std::alloc::{AllocError, Global};
-use test_support::body::Body;
-use test_support::places::Places;
+use test_support::lines::{command_in, created};
 
 /// The bytes of descriptions, by their names.
 #[derive(Drop)]
@@ -20,8 +16,8 @@ pub struct Descriptions {
 
 /// The call that a line is.
 pub fn call_in(alloc: Global, line: &str) -> Result<Call, Wrong> {
-    match parse(alloc, line.as_bytes())? {
-        Line::Command(Command::Call(call)) => Ok(call),
+    match command_in(alloc, line) {
+        Some(Command::Call(call)) => Ok(call),
         _ => Err(Wrong),
     }
 }
@@ -31,19 +27,6 @@ pub fn bytes_in(alloc: Global, digits: &str) -> Result<Vec<u8>, Wrong> {
     match hex::decode(alloc, digits) {
         Ok(bytes) => Ok(bytes),
         Err(_) => Err(Wrong),
-    }
-}
-
-/// The bytes of the description that a create makes in a table of its own. They tell its node as the creator.
-fn created(alloc: Global, line: &str) -> Result<Vec<u8>, Wrong> {
-    let call = call_in(alloc, line)?;
-    let mut places = Places::new(alloc)?;
-    let mut table = Table::new(alloc);
-    let _reply = places.call::<Local>(call, &mut table);
-    Local::let_go(table);
-    match places.factory(0) {
-        Some((_, description)) => Ok(encode(alloc, description)?),
-        None => Err(Wrong),
     }
 }
 
@@ -62,11 +45,12 @@ fn described(alloc: Global, text: &str, creator: &str) -> Result<Vec<u8>, Wrong>
         ("by", node) => {
             let node = number(node)?;
             let line = format!(in alloc; "{pattern} create {node} 0 {rest}")?;
-            created(alloc, line.as_str())
+            created(alloc, line.as_str()).ok_or(Wrong)
         }
         _ => {
             let line = format!(in alloc; "{pattern} create 0 0 {rest}")?;
-            Ok(without_creator(alloc, &created(alloc, line.as_str())?)?)
+            let bytes = created(alloc, line.as_str()).ok_or(Wrong)?;
+            Ok(without_creator(alloc, &bytes)?)
         }
     }
 }

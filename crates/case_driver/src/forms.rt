@@ -1,10 +1,10 @@
 //! Questions about the byte form.
 
 use crate::descriptions::bytes_in;
-use crate::terms::write_service;
 use crate::wrong::Wrong;
 use iceoryx2_byte_form::bytes::{DecodeError, decode};
 use std::alloc::Global;
+use test_support::terms::write_service;
 
 /// Writes the description of these digits in terms, or that they are none.
 pub fn write_decoded(alloc: Global, digits: &str, text: &mut String) -> Result<(), Wrong> {

@@ -2,10 +2,12 @@
 
 use crate::answers::answer_in;
 use crate::descriptions::{Descriptions, bytes_in};
+use crate::entries::deed_in;
 use crate::known::Known;
 use crate::words::{first_word, named, number, numbers};
 use crate::wrong::Wrong;
 use iceoryx2_description::description::ServiceHash;
+use iceoryx2_log::entry::Entry;
 use iceoryx2_table::table::{Act, Step};
 use iceoryx2_testing::script::Answer;
 use std::alloc::Global;
@@ -20,19 +22,37 @@ pub enum Over {
     Large,
     Plain,
     Journal,
+    Busy,
+    Full,
     Script,
     Negotiate,
+    Replies,
+    Apart,
     Explain,
     Diagram,
 }
 
-const OVER: [(&str, Over); 8] = [
+impl Over {
+    /// Whether it is a journal, beside which others append entries. Beside a table peers take steps.
+    fn is_journal(self) -> bool {
+        match self {
+            Over::Journal | Over::Busy | Over::Full => true,
+            _ => false,
+        }
+    }
+}
+
+const OVER: [(&str, Over); 12] = [
     ("table", Over::Table),
     ("large", Over::Large),
     ("plain", Over::Plain),
     ("journal", Over::Journal),
+    ("busy", Over::Busy),
+    ("full", Over::Full),
     ("script", Over::Script),
     ("negotiate", Over::Negotiate),
+    ("replies", Over::Replies),
+    ("apart", Over::Apart),
     ("explain", Over::Explain),
     ("diagram", Over::Diagram),
 ];
@@ -44,17 +64,19 @@ enum Gift {
     Service,
     Describe,
     Peer,
+    Entries,
     Answers,
     Nothing,
 }
 
-const GIFTS: [(&str, Gift); 7] = [
+const GIFTS: [(&str, Gift); 8] = [
     ("", Gift::Nothing),
     ("over", Gift::Over),
     ("program", Gift::Over),
     ("service", Gift::Service),
     ("describe", Gift::Describe),
     ("peer", Gift::Peer),
+    ("entries", Gift::Entries),
     ("answers:", Gift::Answers),
 ];
 
@@ -65,6 +87,8 @@ pub struct Given {
     pub counter: u64,
     pub refused: Vec<u64>,
     pub batches: Vec<Vec<Step>>,
+    /// What others append before each hold of a journal's log.
+    pub entries: Vec<Vec<Entry>>,
     pub answers: Vec<Answer>,
     pub descriptions: Descriptions,
     pub known: Known,
@@ -113,6 +137,35 @@ fn push_steps(
     Ok(())
 }
 
+/// Adds the entries of a node at a service.
+fn push_entries(
+    alloc: Global,
+    descriptions: &Descriptions,
+    (node, hash, deeds): (u64, ServiceHash, &str),
+    batch: &mut Vec<Entry>,
+) -> Result<(), Wrong> {
+    for text in deeds.split(',') {
+        let deed = deed_in(alloc, descriptions, text)?;
+        batch.push(Entry { node, hash, deed })?;
+    }
+    Ok(())
+}
+
+/// Adds batches up to the one before an access, and gives its place.
+fn make_room<T: Drop>(
+    alloc: Global,
+    batches: &mut Vec<Vec<T>>,
+    access: u64,
+) -> Result<usize, Wrong> {
+    if access > MOST_BATCHES {
+        return Err(Wrong);
+    }
+    for _ in batches.len() as u64..access {
+        batches.push(Vec::new(alloc))?;
+    }
+    (access as usize).checked_sub(1).ok_or(Wrong)
+}
+
 impl Given {
     /// Nothing is given: an empty script.
     pub fn new(alloc: Global) -> Given {
@@ -121,6 +174,7 @@ impl Given {
             counter: 0,
             refused: Vec::new(alloc),
             batches: Vec::new(alloc),
+            entries: Vec::new(alloc),
             answers: Vec::new(alloc),
             descriptions: Descriptions {
                 all: Vec::new(alloc),
@@ -149,6 +203,7 @@ impl Given {
             }
             Gift::Describe => self.descriptions.add(alloc, rest),
             Gift::Peer => self.add_steps(alloc, rest),
+            Gift::Entries => self.add_entries(alloc, rest),
             Gift::Answers => self.add_answers(alloc, rest),
             Gift::Nothing => Ok(()),
         }
@@ -201,15 +256,31 @@ impl Given {
         access: u64,
         (peer, steps): (u64, &str),
     ) -> Result<(), Wrong> {
-        if access == 0 || access > MOST_BATCHES || self.over == Over::Journal {
+        if self.over.is_journal() {
             return Err(Wrong);
         }
-        for _ in self.batches.len() as u64..access {
-            self.batches.push(Vec::new(alloc))?;
-        }
-        match (self.service, self.batches.get_mut(access as usize - 1)) {
+        let place = make_room(alloc, &mut self.batches, access)?;
+        match (self.service, self.batches.get_mut(place)) {
             (Some(hash), Some(batch)) => {
                 push_steps(alloc, &self.descriptions, (peer, hash, steps), batch)
+            }
+            _ => Err(Wrong),
+        }
+    }
+
+    /// Adds the entries of a node, `NODE before N: DEED, ..`, to those that come before this access.
+    fn add_entries(&mut self, alloc: Global, text: &str) -> Result<(), Wrong> {
+        let (front, deeds) = around(text, ":");
+        let (node, access) = around(front, " before ");
+        let (node, access) = (number(node.trim())?, number(access.trim())?);
+        self.known.add_node(node)?;
+        if !self.over.is_journal() {
+            return Err(Wrong);
+        }
+        let place = make_room(alloc, &mut self.entries, access)?;
+        match (self.service, self.entries.get_mut(place)) {
+            (Some(hash), Some(batch)) => {
+                push_entries(alloc, &self.descriptions, (node, hash, deeds), batch)
             }
             _ => Err(Wrong),
         }

@@ -32,6 +32,16 @@ impl Known {
         self.services.iter().any(|service| service.1 == *hash)
     }
 
+    /// How a service of this hash was named, if it was.
+    pub fn title(&self, hash: &ServiceHash) -> Option<&str> {
+        for (title, named) in &self.services {
+            if named == hash {
+                return Some(title.as_str());
+            }
+        }
+        None
+    }
+
     /// Adds the service `PATTERN NAME`, and returns its hash.
     pub fn add_service(&mut self, alloc: Global, service: &str) -> Result<ServiceHash, Wrong> {
         let hash = hash_of(alloc, service)?;

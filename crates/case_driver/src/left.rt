@@ -2,8 +2,10 @@
 
 use crate::known::Known;
 use crate::subject::{Seen, Subject};
+use iceoryx2_commands::command::Reply;
 use iceoryx2_description::description::ServiceHash;
 use iceoryx2_world::listing::{Entry, ListedRow, ListedSegment};
+use negotiate_serve::reply::describe;
 use std::alloc::{AllocError, Global};
 
 fn write_row(row: &ListedRow, text: &mut String) -> Result<(), AllocError> {
@@ -109,6 +111,10 @@ fn write_counts(seen: &Seen, text: &mut String) -> Result<(), AllocError> {
         let skipped = seen.skipped;
         write!(text, "; {skipped} skipped")?;
     }
+    if !seen.note.is_empty() {
+        let note = seen.note;
+        write!(text, "; {note}")?;
+    }
     Ok(())
 }
 
@@ -144,4 +150,61 @@ pub fn write_left<S: Subject>(
     write_counts(&seen, &mut all)?;
     write_answers(answers, seen.unsaid, &mut all)?;
     text.push_str(all.as_str().strip_prefix("; ").unwrap_or("nothing"))
+}
+
+/// Writes what is listed of a service, behind its name, or behind its hash where it wasn't named.
+fn write_listed(
+    alloc: Global,
+    entry: &Entry,
+    known: &Known,
+    text: &mut String,
+) -> Result<(), AllocError> {
+    let mut part = String::new(alloc);
+    write_row(&entry.row, &mut part)?;
+    if let Some(segment) = entry.segment {
+        write_segment(segment, &mut part)?;
+    }
+    let part = part.as_str().strip_prefix(", ").unwrap_or("");
+    match known.title(&entry.hash) {
+        Some(title) => write!(text, "; {title}: {part}"),
+        None => {
+            let hash = entry.hash.to_text(alloc)?;
+            write!(text, "; {hash}: {part}")
+        }
+    }
+}
+
+/// Writes what a storage lists, in the order of its listing.
+pub fn write_list<S: Subject>(
+    alloc: Global,
+    storage: &S,
+    known: &Known,
+    text: &mut String,
+) -> Result<(), AllocError> {
+    let seen = storage.seen(alloc)?;
+    let mut all = String::new(alloc);
+    for entry in &seen.entries {
+        write_listed(alloc, entry, known, &mut all)?;
+    }
+    text.push_str(all.as_str().strip_prefix("; ").unwrap_or("nothing"))
+}
+
+/// Writes the lines by which the programs list what a storage has, with semicolons between.
+pub fn write_services<S: Subject>(
+    alloc: Global,
+    storage: &S,
+    text: &mut String,
+) -> Result<(), AllocError> {
+    let seen = storage.seen(alloc)?;
+    let mut lines = String::new(alloc);
+    describe(&Reply::Listing(seen.entries), 0, &mut lines)?;
+    let mut is_first = true;
+    for line in lines.lines() {
+        if !is_first {
+            text.push_str("; ")?;
+        }
+        text.push_str(line)?;
+        is_first = false;
+    }
+    Ok(())
 }

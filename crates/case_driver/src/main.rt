@@ -8,6 +8,7 @@
 mod accesses;
 mod answers;
 mod descriptions;
+mod entries;
 mod forms;
 mod given;
 mod known;
@@ -16,7 +17,6 @@ mod programs;
 mod run;
 mod storages;
 mod subject;
-mod terms;
 mod values;
 mod words;
 mod wrong;

@@ -4,10 +4,61 @@ use crate::given::Over;
 use crate::wrong::Wrong;
 use explain_serve::format::Format;
 use explain_serve::serve::serve as explain;
-use negotiate_serve::ending::{Ending, ServeError, status};
+use iceoryx2_description::config::Config;
+use iceoryx2_session::session::Session;
+use iceoryx2_table::table::Table;
+use negotiate_serve::answer::answer_next;
+use negotiate_serve::ending::{Ending, ServeError, WrongLines, status};
 use negotiate_serve::report::report;
 use negotiate_serve::serve::serve as negotiate;
 use std::alloc::Global;
+use std::io::BufReader;
+
+/// More lines than any input has.
+const MOST_LINES: u64 = 1_000_000;
+
+/// Answers each line of an input, also those that are no command.
+fn answer_all(
+    alloc: Global,
+    wrong_lines: WrongLines,
+    reader: &mut BufReader<&[u8]>,
+    page: &mut Vec<u8>,
+    session: &mut Session<Table>,
+) -> Result<Ending, ServeError> {
+    let mut line = Vec::new(alloc);
+    let mut text = String::new(alloc);
+    for number in 1..MOST_LINES {
+        let ended = answer_next(
+            number,
+            wrong_lines,
+            reader,
+            page,
+            session,
+            &mut line,
+            &mut text,
+        )?;
+        if let Some(ending) = ended {
+            return Ok(ending);
+        }
+    }
+    Err(ServeError::TooManyLines)
+}
+
+/// Does so over a table of its own, as sessions of `wulameron` do.
+fn reply(
+    alloc: Global,
+    wrong_lines: WrongLines,
+    input: &[u8],
+    page: &mut Vec<u8>,
+) -> Result<Ending, ServeError> {
+    let Ok(mut reader) = BufReader::new(alloc, input) else {
+        return Err(ServeError::OutOfMemory);
+    };
+    let mut session = Session::new(Config::default(), Table::new(alloc));
+    let ended = answer_all(alloc, wrong_lines, &mut reader, page, &mut session);
+    let _table = session.finish();
+    ended
+}
 
 /// Runs a program on an input, and returns how it ended. The page takes what it prints.
 fn serve(
@@ -19,6 +70,8 @@ fn serve(
     match over {
         Over::Explain => explain(alloc, input, page, Format::Lines),
         Over::Diagram => explain(alloc, input, page, Format::Diagram),
+        Over::Replies => reply(alloc, WrongLines::Reply, input, page),
+        Over::Apart => reply(alloc, WrongLines::ReplyApart, input, page),
         _ => negotiate(alloc, input, page),
     }
 }

@@ -4,12 +4,10 @@ use crate::accesses;
 use crate::descriptions::call_in;
 use crate::forms::{write_changed, write_decoded, write_fronts};
 use crate::given::Given;
-use crate::known::hash_of;
-use crate::left::write_left;
+use crate::left::{write_left, write_list, write_services};
 use crate::programs::{write_said, write_served};
 use crate::subject::Subject;
-use crate::terms::write_terms;
-use crate::values::{write_compatible, write_defined, write_required, write_type};
+use crate::values::{write_compatible, write_defined, write_hash, write_required, write_type};
 use crate::words::{first_word, named, number};
 use crate::wrong::{Wrong, write_answer};
 use iceoryx2_access::storage::{Service, Sha1Hasher, Storage};
@@ -20,6 +18,7 @@ use std::alloc::{AllocError, Global};
 use std::marker::PhantomData;
 use std::mem;
 use test_support::places::{Closing, Places};
+use test_support::terms::write_factory;
 
 /// Services that stand in a storage of this type.
 struct Standing<S> {
@@ -46,6 +45,11 @@ enum Question {
     Close,
     Slot,
     Left,
+    List,
+    Services,
+    Abandon,
+    Clean,
+    Adopt,
     Value(Value),
 }
 
@@ -65,13 +69,18 @@ enum Value {
     Compatible,
 }
 
-const QUESTIONS: [(&str, Question); 17] = [
+const QUESTIONS: [(&str, Question); 22] = [
     ("event", Question::Call),
     ("pubsub", Question::Call),
     ("rr", Question::Call),
     ("close", Question::Close),
     ("slot", Question::Slot),
     ("left", Question::Left),
+    ("list", Question::List),
+    ("services", Question::Services),
+    ("abandon", Question::Abandon),
+    ("clean", Question::Clean),
+    ("adopt", Question::Adopt),
     ("serve", Question::Value(Value::Serve)),
     ("says", Question::Value(Value::Says)),
     ("decode", Question::Value(Value::Decode)),
@@ -103,10 +112,7 @@ fn answer_value(
         }
         Value::Fronts => write_fronts(alloc, rest, text),
         Value::Changed => write_changed(alloc, rest, text),
-        Value::Hash => {
-            let hash = hash_of(alloc, rest)?.to_text(alloc)?;
-            Ok(text.push_str(hash.as_str())?)
-        }
+        Value::Hash => write_hash(alloc, rest, text),
         Value::Define => write_defined(alloc, rest, text),
         Value::Require => write_required(alloc, rest, text),
         Value::Type => write_type(alloc, rest, text),
@@ -132,6 +138,13 @@ impl<S: Subject> Run<S> {
                 let storage = self.storage.inner();
                 Ok(write_left(alloc, storage, (&given.known, &given.said), text)?)
             }
+            Ok(Question::List) => {
+                Ok(write_list(alloc, self.storage.inner(), &given.known, text)?)
+            }
+            Ok(Question::Services) => { Ok(write_services(alloc, self.storage.inner(), text)?) }
+            Ok(Question::Abandon) => self.abandon(number(rest)? as usize, text),
+            Ok(Question::Clean) => self.storage.inner_mut().clean_up(number(rest)?, text),
+            Ok(Question::Adopt) => self.storage.inner_mut().take_in(number(rest)?, text),
             Ok(Question::Value(value)) => answer_value(alloc, given, (value, rest), text),
             Err(Wrong) if question.trim() == "counts" => Ok(self.write_counts(text)?),
             Err(Wrong) => self.access(alloc, given, (word, rest), text),
@@ -169,6 +182,14 @@ impl<S: Subject> Run<S> {
         }
     }
 
+    /// Abandons what a slot holds, and writes that, or that it holds nothing.
+    fn abandon(&mut self, slot: usize, text: &mut String) -> Result<(), Wrong> {
+        match self.places.abandon(slot) {
+            None => Ok(text.push_str("abandoned")?),
+            Some(reply) => Ok(describe(&reply, slot, text)?),
+        }
+    }
+
     /// Makes a single access. The node is its first number, but that of a release its second.
     fn access(
         &mut self,
@@ -202,15 +223,10 @@ impl<S: Subject> Run<S> {
 
     /// Writes what a slot holds.
     fn write_slot(&self, slot: usize, text: &mut String) -> Result<(), Wrong> {
-        let Some((number, description)) = self.places.factory(slot) else {
-            return Ok(text.push_str("empty")?);
-        };
-        let name = description.name();
-        write!(text, "number={number} {name}")?;
-        if let Some(creator) = description.creator() {
-            write!(text, " creator={creator}")?;
+        match self.places.factory(slot) {
+            Some((number, description)) => Ok(write_factory(number, description, text)?),
+            None => Ok(text.push_str("empty")?),
         }
-        Ok(write_terms(description, text)?)
     }
 }
 

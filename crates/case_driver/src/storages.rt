@@ -6,7 +6,7 @@ use crate::wrong::write_answer;
 use iceoryx2_journal::journal::Journal;
 use iceoryx2_large_table::kinds::Trees;
 use iceoryx2_large_table::world::WorldOver;
-use iceoryx2_log::memory::MemoryLog;
+use iceoryx2_log::memory::{Batch, MemoryLog};
 use iceoryx2_table::own_parts::OwnParts;
 use iceoryx2_table::table::TableOver;
 use iceoryx2_table::table::stored::StoredWorld;
@@ -46,14 +46,28 @@ fn over_plain(
     run_lines(alloc, given, table, lines, text)
 }
 
-/// Over a journal on an empty log in memory, which nobody else uses.
+/// A log that is empty at first. What is refused are accesses of the journal, holds of its log, or appends to it.
+fn log_of(alloc: Global, given: &mut Given) -> Result<MemoryLog, AllocError> {
+    let mut log = MemoryLog::from_entries(alloc, Vec::new(alloc), 0);
+    for entries in mem::replace(&mut given.entries, Vec::new(alloc)) {
+        log.schedule(Batch::new(entries))?;
+    }
+    match given.over {
+        Over::Busy => log.set_busy(mem::replace(&mut given.refused, Vec::new(alloc))),
+        Over::Full => log.set_refused(mem::replace(&mut given.refused, Vec::new(alloc))),
+        _ => {}
+    }
+    Ok(log)
+}
+
+/// Over a journal on a log in memory.
 fn over_journal(
     alloc: Global,
     given: &mut Given,
     lines: &[&str],
     text: &mut String,
 ) -> Result<(), AllocError> {
-    let log = MemoryLog::from_entries(alloc, Vec::new(alloc), 0);
+    let log = log_of(alloc, given)?;
     let nodes = OWN_NODES.to_vec(alloc)?;
     let journal = Journal::starting_at(alloc, log, nodes, given.counter);
     run_lines(alloc, given, journal, lines, text)
@@ -95,7 +109,7 @@ pub fn carry_out(alloc: Global, lines: &[&str], text: &mut String) -> Result<(),
         Over::Table => over_table::<StoredWorld>(alloc, &mut given, lines, text),
         Over::Large => over_table::<WorldOver<Trees>>(alloc, &mut given, lines, text),
         Over::Plain => over_plain(alloc, &mut given, lines, text),
-        Over::Journal => over_journal(alloc, &mut given, lines, text),
+        Over::Journal | Over::Busy | Over::Full => over_journal(alloc, &mut given, lines, text),
         _ => over_script(alloc, &mut given, lines, text),
     }
 }

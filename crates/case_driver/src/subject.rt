@@ -1,8 +1,11 @@
 //! What is seen of the storages that runs are over.
 
+use crate::wrong::Wrong;
 use iceoryx2_access::storage::Storage;
 use iceoryx2_description::description::ServiceHash;
+use iceoryx2_journal::cleaning::Cleaned;
 use iceoryx2_journal::journal::Journal;
+use iceoryx2_log::entry::{Deed, Entry as LogEntry};
 use iceoryx2_log::memory::MemoryLog;
 use iceoryx2_table::own_parts::OwnParts;
 use iceoryx2_table::table::TableOver;
@@ -25,6 +28,8 @@ pub struct Seen {
     pub skipped: u64,
     /// How many of its answers weren't taken.
     pub unsaid: usize,
+    /// What else is to be told of it, if anything is.
+    pub note: &'static str,
 }
 
 /// A storage that runs are over. What it tells makes no access.
@@ -34,6 +39,12 @@ pub trait Subject: Storage + Drop {
 
     /// Whether the node has a tag for the service, and how many tickets.
     fn held(&self, node: u64, hash: &ServiceHash) -> (bool, u64);
+
+    /// Cleans up for a node of another process, and writes what was given back. Only a journal can.
+    fn clean_up(&mut self, node: u64, text: &mut String) -> Result<(), Wrong>;
+
+    /// Makes such a node an own one, and writes whether it is.
+    fn take_in(&mut self, node: u64, text: &mut String) -> Result<(), Wrong>;
 }
 
 impl<W: OwnParts> Subject for TableOver<W> {
@@ -44,11 +55,20 @@ impl<W: OwnParts> Subject for TableOver<W> {
             pending: self.pending(),
             skipped: self.skipped(),
             unsaid: 0,
+            note: "",
         })
     }
 
     fn held(&self, node: u64, hash: &ServiceHash) -> (bool, u64) {
         (self.has_tag(node, hash), self.tickets(node, hash))
+    }
+
+    fn clean_up(&mut self, _node: u64, _text: &mut String) -> Result<(), Wrong> {
+        Err(Wrong)
+    }
+
+    fn take_in(&mut self, _node: u64, _text: &mut String) -> Result<(), Wrong> {
+        Err(Wrong)
     }
 }
 
@@ -60,6 +80,7 @@ impl Subject for PlainTable {
             pending: Plain::pending(self),
             skipped: Plain::skipped(self),
             unsaid: 0,
+            note: "",
         })
     }
 
@@ -69,22 +90,81 @@ impl Subject for PlainTable {
             Plain::tickets(self, node, hash),
         )
     }
+
+    fn clean_up(&mut self, _node: u64, _text: &mut String) -> Result<(), Wrong> {
+        Err(Wrong)
+    }
+
+    fn take_in(&mut self, _node: u64, _text: &mut String) -> Result<(), Wrong> {
+        Err(Wrong)
+    }
+}
+
+/// The number of the first lock, at which a journal's numbers begin.
+fn first_number(entries: &[LogEntry]) -> u64 {
+    for entry in entries {
+        if let Deed::Lock { number } = entry.deed {
+            return number;
+        }
+    }
+    0
+}
+
+/// What a process lists that begins with these entries, and has no node of its own.
+fn listed_anew(alloc: Global, entries: &[LogEntry]) -> Result<Vec<Entry>, AllocError> {
+    let mut copies = Vec::new(alloc);
+    for entry in entries {
+        copies.push(entry.clone()?)?;
+    }
+    let first = first_number(&copies);
+    let log = MemoryLog::from_entries(alloc, copies, 0);
+    let mut journal = Journal::starting_at(alloc, log, Vec::new(alloc), first);
+    journal.refresh();
+    journal.list()
+}
+
+/// That a journal is over, or that another process would list something else.
+fn note_of(alloc: Global, journal: &Journal<MemoryLog>) -> Result<&'static str, AllocError> {
+    if journal.is_over() {
+        return Ok("over");
+    }
+    if listed_anew(alloc, journal.log().entries())? == journal.list()? {
+        return Ok("");
+    }
+    Ok("others list otherwise")
 }
 
 impl Subject for Journal<MemoryLog> {
-    fn seen(&self, _alloc: Global) -> Result<Seen, AllocError> {
+    fn seen(&self, alloc: Global) -> Result<Seen, AllocError> {
         Ok(Seen {
             entries: self.list()?,
             counter: Some(self.world().counter()),
-            pending: 0,
+            pending: self.log().pending(),
             skipped: 0,
             unsaid: 0,
+            note: note_of(alloc, self)?,
         })
     }
 
     fn held(&self, node: u64, hash: &ServiceHash) -> (bool, u64) {
         let world = self.world();
         (world.has_tag(node, hash), world.tickets(node, hash))
+    }
+
+    fn clean_up(&mut self, node: u64, text: &mut String) -> Result<(), Wrong> {
+        match self.clean(node) {
+            Ok(Cleaned { releases, removals }) => {
+                Ok(write!(text, "{releases} releases, {removals} removals")?)
+            }
+            Err(error) => Ok(write!(text, "{error}")?),
+        }
+    }
+
+    fn take_in(&mut self, node: u64, text: &mut String) -> Result<(), Wrong> {
+        match self.adopt(node) {
+            Ok(()) => Ok(text.push_str("adopted")?),
+            Err(error) => Ok(write!(text, "{error}")?),
+        }
     }
 }
 
@@ -96,10 +176,19 @@ impl Subject for Script {
             pending: 0,
             skipped: 0,
             unsaid: self.left().len(),
+            note: "",
         })
     }
 
     fn held(&self, _node: u64, _hash: &ServiceHash) -> (bool, u64) {
         (false, 0)
+    }
+
+    fn clean_up(&mut self, _node: u64, _text: &mut String) -> Result<(), Wrong> {
+        Err(Wrong)
+    }
+
+    fn take_in(&mut self, _node: u64, _text: &mut String) -> Result<(), Wrong> {
+        Err(Wrong)
     }
 }

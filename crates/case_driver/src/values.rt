@@ -1,11 +1,13 @@
 //! Questions about attributes and types.
 
-use crate::terms::variant_word;
+use crate::known::hash_of;
 use crate::words::{first_word, named, number};
 use crate::wrong::Wrong;
 use iceoryx2_attribute::attribute::{AttributeError, AttributeSpecifier, AttributeVerifier};
+use iceoryx2_description::description::{ServiceName, ServiceNameError};
 use iceoryx2_types::types::{MessageTypeDetails, TypeDetail, TypeDetailError, TypeVariant};
 use std::alloc::Global;
+use test_support::terms::variant_word;
 
 const VARIANTS: [(&str, TypeVariant); 2] = [
     ("fixed", TypeVariant::FixedSize),
@@ -120,9 +122,8 @@ pub fn write_type(alloc: Global, text: &str, answer: &mut String) -> Result<(), 
             let (size, alignment) = (detail.size(), detail.alignment());
             Ok(write!(answer, "{variant} {name} {size} {alignment}")?)
         }
-        Err(TypeDetailError::NameLength) => Ok(answer.push_str("NameLength")?),
-        Err(TypeDetailError::Alignment) => Ok(answer.push_str("Alignment")?),
         Err(TypeDetailError::OutOfMemory) => Err(Wrong),
+        Err(error) => Ok(write!(answer, "{error}")?),
     }
 }
 
@@ -151,4 +152,17 @@ pub fn write_compatible(alloc: Global, text: &str, answer: &mut String) -> Resul
     };
     let is_compatible = message_in(alloc, message)?.is_compatible_to(&message_in(alloc, other)?);
     Ok(write!(answer, "{is_compatible}")?)
+}
+
+/// Writes the hash of the service `PATTERN NAME`, or why there is no such name.
+pub fn write_hash(alloc: Global, service: &str, answer: &mut String) -> Result<(), Wrong> {
+    let (_pattern, name) = first_word(service);
+    match ServiceName::new(alloc, text_in(name)) {
+        Ok(_name) => {
+            let hash = hash_of(alloc, service)?.to_text(alloc)?;
+            Ok(answer.push_str(hash.as_str())?)
+        }
+        Err(ServiceNameError::OutOfMemory) => Err(Wrong),
+        Err(error) => Ok(write!(answer, "{error}")?),
+    }
 }

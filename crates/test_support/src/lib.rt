@@ -1,5 +1,5 @@
-//! What the crates of tests share: settings, what is listed, calls of any pattern, what their refusals are called, and
-//! a third table. Nothing of it is expected of the layer by itself: the tests have what they want.
+//! What the crates of tests share: settings, the words of lines and terms, calls of any pattern, what their refusals are
+//! called, and a third table. Nothing of it is expected of the layer by itself: the tests have what they want.
 //!
 //! The third table is one in its plain form, written from the rules alone (`plain`, `standing`), beside those in sorted
 //! vectors and in trees by one trait (`body`), with commands over any storage (`places`).
@@ -7,6 +7,7 @@
 
 pub mod body;
 pub mod calls;
+pub mod lines;
 pub mod listing;
 pub mod patterns;
 pub mod places;
@@ -14,3 +15,4 @@ pub mod plain;
 pub mod refusals;
 pub mod settings;
 mod standing;
+pub mod terms;

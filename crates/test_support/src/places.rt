@@ -168,6 +168,17 @@ impl Places {
         }
     }
 
+    /// Abandons the factory of a slot: it is let go, and its ticket stays. Gives why there is none, where there is none.
+    pub fn abandon(&mut self, slot: usize) -> Option<Reply> {
+        let Some(place) = self.all.get_mut(slot) else {
+            return Some(Reply::NoSuchSlot);
+        };
+        match place.take() {
+            Some(_kept) => None,
+            None => Some(Reply::SlotEmpty),
+        }
+    }
+
     /// The number and the description of the factory in a slot.
     pub fn factory(&self, slot: usize) -> Option<(u64, &StaticConfig)> {
         match self.all.get(slot) {

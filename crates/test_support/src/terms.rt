@@ -1,14 +1,14 @@
 //! What a description has that isn't the default, as the terms of a line.
 
+use crate::settings::{
+    EVENTS, MESSAGES, REQUESTS, flags_of_requests, numbers_of_events, numbers_of_messages,
+    numbers_of_requests,
+};
 use iceoryx2_access::storage::{ServiceNameHasher, Sha1Hasher};
 use iceoryx2_description::description::{MessagingPattern, StaticConfig};
 use iceoryx2_description::{event, publish_subscribe, request_response};
 use iceoryx2_types::types::{TypeDetail, TypeVariant};
 use std::alloc::{AllocError, Global};
-use test_support::settings::{
-    EVENTS, MESSAGES, REQUESTS, flags_of_requests, numbers_of_events, numbers_of_messages,
-    numbers_of_requests,
-};
 
 /// A type's variant, name, size and alignment.
 type Facts = (&'static str, &'static str, u64, u64);
@@ -158,7 +158,7 @@ fn write_requests(
 }
 
 /// Writes what a description has that isn't the default, each behind a space.
-pub fn write_terms(description: &StaticConfig, text: &mut String) -> Result<(), AllocError> {
+fn write_terms(description: &StaticConfig, text: &mut String) -> Result<(), AllocError> {
     match description.messaging_pattern() {
         MessagingPattern::Event(agreed) => write_events(agreed, text)?,
         MessagingPattern::PublishSubscribe(agreed) => write_samples(agreed, text)?,
@@ -192,6 +192,20 @@ pub fn write_service(
     if *hash != Sha1Hasher::hash(prefix, name) {
         let digits = hash.to_text(alloc)?;
         write!(text, " hash={digits}")?;
+    }
+    write_terms(description, text)
+}
+
+/// Writes what a factory has, `number=0 NAME [creator=N] [TERM ..]`.
+pub fn write_factory(
+    number: u64,
+    description: &StaticConfig,
+    text: &mut String,
+) -> Result<(), AllocError> {
+    let name = description.name();
+    write!(text, "number={number} {name}")?;
+    if let Some(creator) = description.creator() {
+        write!(text, " creator={creator}")?;
     }
     write_terms(description, text)
 }
