@@ -1,7 +1,5 @@
-//! The paths below `iceoryx2_service` by which a user of the layer names what it has, and short uses of
-//! those that no other test takes.
+//! The paths below `iceoryx2_service` by which a user of the layer names what it has.
 
-use crate::support::{assert_same, drop_table, granted, name};
 use iceoryx2_rounds::caller::Caller;
 use iceoryx2_rounds::verdict::verdict_law;
 use iceoryx2_service::attribute::{
@@ -34,9 +32,6 @@ use iceoryx2_service::types::{
     self, Alignment, MessageTypeDetails, Slice, TypeDetail, TypeDetailError, TypeVariant,
     ZeroCopySend,
 };
-use std::alloc::Global;
-use std::process::Abort;
-use test_support::settings::{EVENTS, events};
 
 /// Types that have paths.
 fn named<T>() {}
@@ -73,7 +68,9 @@ fn of_descriptions() {
         ServiceNameError, ServiceHash, Duration, Time, ClockFault, Deadline, EventId, StaticConfig,
         MessagingPattern, description::event::StaticConfig,
         description::publish_subscribe::StaticConfig, description::request_response::StaticConfig,
-        Config, description::Event, description::PublishSubscribe, description::RequestResponse
+        Config, description::Event, description::PublishSubscribe, description::RequestResponse,
+        Caller, RequestedTypes, [u8; HASH_LENGTH], [(); MIN_NAME_LENGTH], [(); MAX_NAME_LENGTH],
+        [(); NANOSECONDS_PER_SECOND as usize]
     }
     each! { sent: Slice<u64>, CustomHeaderMarker, CustomPayloadMarker, CustomKeyMarker }
 }
@@ -183,116 +180,4 @@ fn each_law_of_counts_and_errors_has_its_path(_rt: HostRuntime) {
     laws::verdict_law::<()>();
     texts_of_errors_differ();
     verdict_law::<()>();
-}
-
-#[test]
-fn limits_are_those_of_names_and_seconds(rt: HostRuntime) {
-    let found = (MIN_NAME_LENGTH, MAX_NAME_LENGTH, NANOSECONDS_PER_SECOND);
-    assert_same(&rt, found, (1, 255, 1_000_000_000));
-}
-
-/// The node, the hash's last byte and the clock of a caller that can't read the clock.
-fn of_caller(rt: &impl Abort, alloc: Global) -> (u64, u8, Result<Time, ClockFault>) {
-    let caller = Caller {
-        node: 7,
-        hash: ServiceHash([17; HASH_LENGTH]),
-        name: name(rt, alloc, "xample"),
-        clock: Err(ClockFault),
-    };
-    (caller.node, caller.hash.0[19], caller.clock)
-}
-
-#[test]
-fn a_caller_is_made_of_a_node_and_a_service(rt: HostRuntime) {
-    assert_same(&rt, of_caller(&rt, rt.alloc()), (7, 17, Err(ClockFault)));
-}
-
-#[test]
-fn no_types_are_requested_at_first(rt: HostRuntime) {
-    let wanted = RequestedTypes {
-        user_header: None,
-        payload: None,
-        alignment: None,
-    };
-    assert_same(&rt, RequestedTypes::none(), wanted);
-}
-
-/// How long the form of events is with the default settings and a name of one byte, and why no bytes are no form.
-fn of_forms(rt: &impl Abort, alloc: Global) -> (usize, Option<DecodeError>) {
-    let description = StaticConfig::new(
-        ServiceHash([17; 20]),
-        name(rt, alloc, "a"),
-        AttributeSet::new(alloc),
-        MessagingPattern::Event(events(EVENTS)),
-    );
-    let length = granted(rt, bytes::encode(alloc, &description)).len();
-    (length, bytes::decode(alloc, &[]).err())
-}
-
-#[test]
-fn forms_are_written_and_read(rt: HostRuntime) {
-    assert_same(
-        &rt,
-        of_forms(&rt, rt.alloc()),
-        (67, Some(DecodeError::Malformed)),
-    );
-}
-
-#[test]
-fn a_state_of_a_look_is_an_error_of_its_pattern(rt: HostRuntime) {
-    let published = publish_subscribe::ServiceAvailabilityState::IncompatibleTypes;
-    let requested = request_response::ServiceAvailabilityState::IncompatibleResponseType;
-    let found = (
-        event::EventOpenError::from(ServiceState::Corrupted),
-        publish_subscribe::PublishSubscribeOpenError::from(published),
-        request_response::RequestResponseOpenError::from(requested),
-    );
-    let wanted = (
-        event::EventOpenError::ServiceInCorruptedState,
-        publish_subscribe::PublishSubscribeOpenError::IncompatibleTypes,
-        request_response::RequestResponseOpenError::IncompatibleResponseType,
-    );
-    assert_same(&rt, found, wanted);
-}
-
-/// A configuration in which each pattern is for another number of nodes.
-fn configuration() -> Config {
-    let mut events = description::Event::default();
-    let mut published = description::PublishSubscribe::default();
-    let mut requested = description::RequestResponse::default();
-    events.max_nodes = 3;
-    published.max_nodes = 4;
-    requested.max_nodes = 5;
-    Config {
-        event: events,
-        publish_subscribe: published,
-        request_response: requested,
-    }
-}
-
-/// For how many nodes the service is that a builder of events creates, which is let go.
-fn created(rt: &impl Abort, alloc: Global, builder: event::Builder<Local>) -> u64 {
-    let mut table = Table::new(alloc);
-    let factory = granted(rt, builder.create(&mut table, Ok(Time::default())));
-    let nodes = factory.static_config().max_nodes;
-    factory.abandon();
-    drop_table(table);
-    nodes
-}
-
-/// For how many nodes the service is that a builder creates, and the one that its copy creates, whose pattern is
-/// chosen after the copy.
-fn of_copies(rt: &impl Abort, alloc: Global) -> (u64, u64) {
-    let node = Node::<Local>::new(1, configuration());
-    let builder = node.service_builder(name(rt, alloc, "xample"));
-    let copy = granted(rt, builder.clone());
-    (
-        created(rt, alloc, builder.event()),
-        created(rt, alloc, copy.event()),
-    )
-}
-
-#[test]
-fn a_builder_and_its_copy_have_the_same_settings(rt: HostRuntime) {
-    assert_same(&rt, of_copies(&rt, rt.alloc()), (3, 3));
 }

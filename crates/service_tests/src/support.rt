@@ -1,19 +1,11 @@
 //! What the tests share.
 
 use iceoryx2_access::storage::{ServiceNameHasher, Sha1Hasher};
-use iceoryx2_attribute::attribute::AttributeVerifier;
 use iceoryx2_description::description::{ServiceHash, ServiceName};
 use iceoryx2_table::table::Table;
-use iceoryx2_world::listing::Entry;
 use std::alloc::Global;
 use std::fmt::Debug;
 use std::process::Abort;
-
-/// Pairs of a key and a value.
-pub type Pairs = &'static [(&'static str, &'static str)];
-
-/// Keys.
-pub type Keys = &'static [&'static str];
 
 /// Ends a test that finds another value than it wants. Only here is a value compared and printed, since
 /// a function that does so takes long to prove.
@@ -42,9 +34,9 @@ pub fn name(rt: &impl Abort, alloc: Global, text: &str) -> ServiceName {
     granted(rt, ServiceName::new(alloc, text))
 }
 
-/// The hash of events of this name.
-pub fn hash_of_events(rt: &impl Abort, alloc: Global, text: &str) -> ServiceHash {
-    Sha1Hasher::hash(b'e', &name(rt, alloc, text))
+/// The hash of a service of this name, by what is hashed in front of it.
+pub fn hash_of(prefix: u8, name: &ServiceName) -> ServiceHash {
+    Sha1Hasher::hash(prefix, name)
 }
 
 /// Puts something after the rest.
@@ -56,53 +48,6 @@ pub fn push<T: Drop>(rt: &impl Abort, all: &mut Vec<T>, last: T) {
 pub fn drop_table(table: Table) {
     let _table = table;
 }
-
-/// Requires these keys.
-fn require_keys(verifier: &mut AttributeVerifier, keys: Keys) {
-    for &key in keys {
-        let _answer = verifier.require_key(key);
-    }
-}
-
-/// A verifier of these pairs and keys.
-pub fn verifier(alloc: Global, pairs: Pairs, keys: Keys) -> AttributeVerifier {
-    let mut verifier = AttributeVerifier::new(alloc);
-    for &(key, value) in pairs {
-        let _answer = verifier.require(key, value);
-    }
-    require_keys(&mut verifier, keys);
-    verifier
-}
-
-/// What a table lists.
-pub fn entries(rt: &impl Abort, table: &Table) -> Vec<Entry> {
-    granted(rt, table.list())
-}
-
-/// Whether a node has a tag for a service, and how many tickets.
-pub type Holding = (bool, u64);
-
-/// What a node holds.
-pub fn held(table: &Table, node: u64, hash: &ServiceHash) -> Holding {
-    (table.has_tag(node, hash), table.tickets(node, hash))
-}
-
-/// What nodes 1 and 2 hold. A pair and no array: the check covers no row of a table of tests that has an array
-/// of tuples in a part without references.
-pub type Holdings = (Holding, Holding);
-
-/// What nodes 1 and 2 hold for a service.
-pub fn holdings(table: &Table, hash: &ServiceHash) -> Holdings {
-    (held(table, 1, hash), held(table, 2, hash))
-}
-
-/// What a node has that doesn't know the service, and one that is registered.
-pub const NOTHING: Holding = (false, 0);
-
-pub const REGISTRATION: Holding = (true, 1);
-
-/// What nodes 1 and 2 hold of a service that neither knows.
-pub const UNHELD: Holdings = (NOTHING, NOTHING);
 
 /// Draws a number by chance: the next of those that follow a seed.
 pub fn draw(seed: &mut u64) -> u64 {

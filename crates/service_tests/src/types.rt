@@ -7,7 +7,6 @@ ghost use Rattle.iceoryx2_types.specs.Types.{fixed_size};
 
 use self::TypeVariant::*;
 use crate::support::{assert_same, granted};
-use iceoryx2_description::description::MessagingPattern;
 use iceoryx2_types::types::publish_subscribe::Header;
 use iceoryx2_types::types::request_response::{RequestHeader, ResponseHeader};
 use iceoryx2_types::types::{
@@ -133,7 +132,7 @@ fn facts_of(detail: &TypeDetail) -> TypeFacts {
 }
 
 /// Whether this is known of a message's header, user header and payload.
-pub fn consists_of(message: &MessageTypeDetails, wanted: [TypeFacts; 3]) -> bool {
+fn consists_of(message: &MessageTypeDetails, wanted: [TypeFacts; 3]) -> bool {
     let found = [
         facts_of(&message.header),
         facts_of(&message.user_header),
@@ -149,28 +148,16 @@ const OWN: [TypeFacts<'static>; 3] = [
     (FixedSize, "MyPayload", 16, 8),
 ];
 
-/// What a message of a number of values is made of.
+/// What a message of a number of values is made of that are aligned further than they ask for.
 const MANY: [TypeFacts<'static>; 3] = [
     (FixedSize, "i32", 4, 4),
     (FixedSize, "bool", 1, 1),
-    (Dynamic, "i64", 8, 8),
+    (Dynamic, "i64", 8, 16),
 ];
 
-/// What a message of publish-subscribe, or a request and then a response, is made of.
-pub type Messages = &'static [[TypeFacts<'static>; 3]];
-
-/// Whether this is known of a service's messages, or of its requests and responses.
-pub fn are_of(pattern: &MessagingPattern, messages: Messages) -> bool {
-    match (pattern, messages) {
-        (MessagingPattern::PublishSubscribe(settings), [message]) => {
-            consists_of(&settings.message_type_details, *message)
-        }
-        (MessagingPattern::RequestResponse(settings), [request, response]) => {
-            consists_of(&settings.request_message_type_details, *request)
-                && consists_of(&settings.response_message_type_details, *response)
-        }
-        _ => false,
-    }
+/// A message whose payload is aligned to 16 bytes.
+fn aligned(message: MessageTypeDetails) -> MessageTypeDetails {
+    message.with_overrides(None, None, Alignment::new(16))
 }
 
 #[test]
@@ -179,7 +166,7 @@ fn a_message_holds_what_its_types_say(rt: HostRuntime) {
     let many = MessageTypeDetails::from::<i32, bool, i64>(rt.alloc(), Dynamic);
     let found = (
         consists_of(&granted(&rt, own), OWN),
-        consists_of(&granted(&rt, many), MANY),
+        consists_of(&aligned(granted(&rt, many)), MANY),
     );
     assert_same(&rt, found, (true, true));
 }
@@ -188,45 +175,4 @@ fn a_message_holds_what_its_types_say(rt: HostRuntime) {
 pub fn detail(rt: &impl Abort, alloc: Global, facts_of: TypeFacts) -> TypeDetail {
     let (variant, name, size, alignment) = facts_of;
     granted(rt, TypeDetail::new(alloc, variant, name, size, alignment))
-}
-
-/// Payloads in place of an `i64`, alignments that are asked, and what the payload is then.
-const OVERRIDES: &[(Option<TypeFacts<'static>>, u64, TypeFacts<'static>)] = &[
-    (None, 4, (FixedSize, "i64", 8, 8)),
-    (None, 16, (FixedSize, "i64", 8, 16)),
-    (
-        Some((FixedSize, "Img", 24, 8)),
-        64,
-        (FixedSize, "Img", 24, 64),
-    ),
-    (Some((Dynamic, "Img", 24, 8)), 4, (Dynamic, "Img", 24, 8)),
-];
-
-/// Whether a message whose payload is an `i64` has the wanted one when this payload and this alignment
-/// are asked for, and its header and its user header as before.
-fn overrides_to(
-    rt: &impl Abort,
-    alloc: Global,
-    payload: Option<TypeFacts>,
-    alignment: u64,
-    wanted: TypeFacts,
-) -> bool {
-    let payload = match payload {
-        Some(facts_of) => Some(detail(rt, alloc, facts_of)),
-        None => None,
-    };
-    let message = MessageTypeDetails::from::<Header, (), i64>(alloc, FixedSize);
-    let overridden = granted(rt, message).with_overrides(None, payload, Alignment::new(alignment));
-    consists_of(
-        &overridden,
-        [constants_of::<Header>(), constants_of::<()>(), wanted],
-    )
-}
-
-#[test]
-fn a_payload_is_aligned_as_far_as_it_is_and_as_is_asked(rt: HostRuntime) {
-    for &(payload, alignment, wanted) in OVERRIDES {
-        let found = overrides_to(&rt, rt.alloc(), payload, alignment, wanted);
-        assert_same(&rt, (wanted, found), (wanted, true));
-    }
 }

@@ -1,7 +1,6 @@
 //! Calls of builders of all patterns over any storage, in the same words. A call of the layer stands here
 //! alone, in a function without a contract, so that a test sees answers and no contracts.
 
-use crate::patterns::Pattern;
 use iceoryx2_access::storage::Service;
 use iceoryx2_attribute::attribute::{AttributeSpecifier, AttributeVerifier};
 use iceoryx2_builder::builder::{Builder, event, publish_subscribe, request_response};
@@ -128,21 +127,6 @@ impl<S: Service, Q: ZeroCopySend, QU: ZeroCopySend, R: ZeroCopySend, RU: ZeroCop
             ask, self(storage) =>
             RequestResponseCreate, RequestResponseOpen, RequestResponseOpenOrCreate
         }
-    }
-}
-
-/// What a call for the service of a pattern answers, by the builder that this one begins.
-pub fn call<S: Service>(
-    builder: Builder<S>,
-    pattern: Pattern,
-    ask: Ask,
-    now: Now,
-    storage: &mut S::Storage,
-) -> Called {
-    match pattern {
-        Pattern::Event => builder.event().call(ask, now, storage),
-        Pattern::PublishSubscribe => messages::<S>(builder).call(ask, now, storage),
-        Pattern::RequestResponse => requests::<S>(builder).call(ask, now, storage),
     }
 }
 

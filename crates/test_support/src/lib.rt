@@ -8,7 +8,6 @@
 pub mod body;
 pub mod calls;
 pub mod lines;
-pub mod listing;
 pub mod patterns;
 pub mod places;
 pub mod plain;

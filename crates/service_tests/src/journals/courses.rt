@@ -1,8 +1,7 @@
 //! Courses from a world to a later one, after histories that are drawn by chance.
 
-use crate::journals::support::{
-    SUBJECTS, Subject, assert_same, copies, described, draw, drawn, granted, push,
-};
+use crate::drawn::{SUBJECTS, Subject, described, drawn};
+use crate::journals::support::{assert_same, copies, draw, granted, push};
 use iceoryx2_byte_form::bytes;
 use iceoryx2_description::description::{HASH_LENGTH, ServiceHash};
 use iceoryx2_journal::course::Course;
@@ -91,7 +90,7 @@ fn drawn_deed(
     node: u64,
     subject: Subject,
 ) -> Deed {
-    let hash = &subject.1;
+    let hash = &subject.hash;
     let chance = draw(seed) % 100;
     if chance < 8 {
         return drawn(rt, seed, &[true, false])
@@ -154,7 +153,7 @@ fn drawn_entry(
     let deed = drawn_deed(rt, alloc, seed, world, node, subject);
     Entry {
         node,
-        hash: subject.1,
+        hash: subject.hash,
         deed,
     }
 }

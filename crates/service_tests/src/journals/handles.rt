@@ -1,11 +1,11 @@
 //! Processes over one list, whose calls are drawn by chance: after each step every process lists the same as the plain
 //! table to which all accesses were made, and each open factory carries what is published of its service.
 
+use crate::drawn::drawn;
 use crate::journals::list_log::{List, ListLog};
-use crate::journals::others::reply_of;
 use crate::journals::recording::{Recorded, Recording};
 use crate::journals::schedules::drawn_command;
-use crate::journals::support::{Tally, assert_same, copies, count, drawn, granted, push};
+use crate::journals::support::{Tally, assert_same, copies, count, granted, push, reply_of};
 use iceoryx2_byte_form::bytes::encode;
 use iceoryx2_commands::command::Reply;
 use iceoryx2_description::description::ServiceHash;

@@ -1,20 +1,18 @@
 //! Commands that are drawn by chance beside other nodes, whose steps are drawn too: over a journal as over the plain
 //! table to which the same accesses are made in the same order.
 
-use crate::journals::others::{Doing, PUBLISHED, REPLACED, log_beside, push_steps, reply_of};
+use crate::drawn::{drawn_batches, drawn_call, drawn_close};
 use crate::journals::recording::{Recorded, Recording};
 use crate::journals::support::{
-    OTHERS, SUBJECTS, Subject, Tally, assert_same, command, copies, count, draw, drawn, granted,
-    journal_of, listed_anew, push,
+    Tally, assert_same, copies, count, draw, granted, journal_of, listed_anew, log_beside, push,
+    reply_of,
 };
-use crate::tables::patterns::Offer;
-use iceoryx2_commands::command::{Command, How, Reply, SLOTS};
+use iceoryx2_commands::command::{Command, Reply};
 use iceoryx2_description::config::Config;
 use iceoryx2_journal::journal::Journal;
 use iceoryx2_log::entry::Entry;
 use iceoryx2_log::memory::MemoryLog;
 use iceoryx2_session::session::Session;
-use iceoryx2_table::table::Step;
 use iceoryx2_world::listing;
 use std::alloc::Global;
 use std::process::Abort;
@@ -31,76 +29,13 @@ const COMMANDS: usize = 8;
 /// The slots that calls are drawn for.
 const DRAWN_SLOTS: usize = 4;
 
-/// How many batches wait before the first of them. The commands make some forty accesses.
-const BATCHES: u64 = 40;
-
-/// What a node of another does, one step after the other. In the last one a segment stays, and of the rest only the
-/// lock is allowed.
-const DOINGS: &[&[Doing]] = &[
-    PUBLISHED,
-    PUBLISHED,
-    &[
-        Doing::Lock,
-        Doing::Make(2),
-        Doing::Publish(Offer::DefaultsFor(2)),
-    ],
-    &[Doing::Read, Doing::Join],
-    &[Doing::Leave],
-    &[Doing::Leave, Doing::RemoveSegment, Doing::RemoveDescription],
-    REPLACED,
-    &[Doing::Lock],
-    &[Doing::RemoveSegment, Doing::RemoveDescription],
-    &[
-        Doing::Lock,
-        Doing::Make(5),
-        Doing::RemoveDescription,
-        Doing::Publish(Offer::DefaultsFor(36)),
-        Doing::Join,
-    ],
-];
-
-/// Draws one of six services.
-fn drawn_subject(rt: &impl Abort, seed: &mut u64) -> Subject {
-    if draw(seed).is_multiple_of(2) {
-        return drawn(rt, seed, &SUBJECTS);
-    }
-    drawn(rt, seed, &OTHERS)
-}
-
-/// Draws a batch: no step, or those of one node of another at one service.
-fn drawn_batch(rt: &impl Abort, alloc: Global, seed: &mut u64) -> Vec<Step> {
-    let mut steps = Vec::new(alloc);
-    if draw(seed).is_multiple_of(2) {
-        return steps;
-    }
-    let node = drawn(rt, seed, &[7u64, 8]);
-    let subject = drawn_subject(rt, seed);
-    let doings = drawn(rt, seed, DOINGS);
-    push_steps(rt, alloc, subject, &mut steps, (node, doings));
-    steps
-}
-
-/// A plain table beside which drawn batches wait.
-fn drawn_recording(rt: &impl Abort, alloc: Global, seed: &mut u64) -> Recording {
-    let mut batches = Vec::new(alloc);
-    for _batch in 0..BATCHES {
-        push(rt, &mut batches, drawn_batch(rt, alloc, seed));
-    }
-    Recording::new(alloc, batches)
-}
-
-/// Draws a command, of which three of four are calls, by one of three nodes from this one on. It names one of four
-/// slots, or one that there isn't.
+/// Draws a command, of which three of four are calls, by one of three nodes from this one on.
 pub fn drawn_command(rt: &impl Abort, alloc: Global, first: u64, seed: &mut u64) -> Command {
-    let slot = drawn(rt, seed, &[0usize, 0, 1, 1, 2, 2, 3, 3, SLOTS]);
     if draw(seed).is_multiple_of(4) {
-        return Command::Close { slot };
+        return drawn_close(rt, seed);
     }
-    let subject = drawn_subject(rt, seed);
-    let how = drawn(rt, seed, &[How::Create, How::Open, How::OpenOrCreate]);
-    let node = first.saturating_add(draw(seed) % 3);
-    let nodes = drawn(rt, seed, &[1u64, 3, 2, 2]);
-    command(rt, alloc, subject, (how, node, slot), nodes)
+    let (call, _) = drawn_call(rt, alloc, first, seed);
+    call
 }
 
 /// Draws the commands of a schedule, behind which all slots that they name are closed.
@@ -157,7 +92,7 @@ fn found(
 /// process lists that has them is what the journal lists. Gives how many entries others appended.
 fn compare(rt: &impl Abort, alloc: Global, schedule: u64, tally: &mut Tally) -> usize {
     let mut seed = schedule;
-    let mut table = drawn_recording(rt, alloc, &mut seed);
+    let mut table = Recording::new(alloc, drawn_batches(rt, alloc, &mut seed));
     let commands = drawn_commands(rt, alloc, seed);
     let wanted = wanted(rt, alloc, &mut table, commands, tally);
 
