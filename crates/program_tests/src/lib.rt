@@ -3,8 +3,7 @@
 //! The reader or writer of `negotiate` and `explain` fails in mid-stream (`faults`, `explanations`), and a fault is told
 //! in a line (`reports`). Each reply is written and flushed before the next line is read, and nothing after a line that
 //! is no command is read (`order`). A program goes on where a byte comes or goes at a time, each interrupted a thousand
-//! times, and after more than a million lines (`retries`). Wrong lines may have replies (`wrong_lines`), and so have
-//! values that no line gives (`replies`).
+//! times, and after more than a million lines (`retries`).
 //!
 //! `wulameron log --follow` goes on if the end of the log is damaged at one look, and whole at the next (`trail`). The stored
 //! runs of `tools/runs` show all else that is printed of logs.
@@ -17,8 +16,6 @@ mod faults;
 #[cfg(test)]
 mod order;
 #[cfg(test)]
-mod replies;
-#[cfg(test)]
 mod reports;
 #[cfg(test)]
 mod retries;
@@ -26,5 +23,3 @@ mod retries;
 mod support;
 #[cfg(test)]
 mod trail;
-#[cfg(test)]
-mod wrong_lines;

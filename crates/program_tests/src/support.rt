@@ -1,7 +1,5 @@
 //! A reader and a writer that tests hand to the program, and what it answers then.
 
-use negotiate_serve::ending::status;
-use negotiate_serve::serve::serve;
 use std::alloc::Global;
 use std::fmt::Debug;
 use std::io::{self, ErrorKind, Read, Write};
@@ -72,18 +70,6 @@ impl Write for Page {
         self.flushes -= 1;
         Ok(())
     }
-}
-
-/// What is printed for an input that comes in pieces of this length, and the status.
-pub fn answered(alloc: Global, input: &[u8], piece: usize) -> (Vec<u8>, u8) {
-    let mut page = Page::new(alloc);
-    let pieces = Pieces {
-        bytes: input,
-        piece,
-        fault: None,
-    };
-    let ended = serve(alloc, pieces, &mut page);
-    (page.text, status(&ended))
 }
 
 /// Printed bytes as a text.
