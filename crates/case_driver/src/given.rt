@@ -11,6 +11,7 @@ use iceoryx2_log::entry::Entry;
 use iceoryx2_table::table::{Act, Step};
 use iceoryx2_testing::script::Answer;
 use std::alloc::Global;
+use test_support::refusing::{Mode, Refused};
 
 /// At most so many batches wait.
 const MOST_BATCHES: u64 = 10_000;
@@ -98,6 +99,10 @@ pub struct Given {
     pub said: Vec<String>,
     /// The program's input.
     pub input: Vec<u8>,
+    /// Which request for memory is refused of the question that is to be asked so.
+    pub starving: Option<(Mode, u16)>,
+    /// How many of its requests were refused.
+    pub refusals: Refused,
 }
 
 /// What stands before a word, and what behind it.
@@ -186,6 +191,8 @@ impl Given {
             service: None,
             said: Vec::new(alloc),
             input: Vec::new(alloc),
+            starving: None,
+            refusals: Refused::None,
         }
     }
 

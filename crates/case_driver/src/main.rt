@@ -1,7 +1,8 @@
 //! The program `case_driver`: plain commands in, a line each, and the answer to each question out.
 //!
 //! `over` or `program` begins a run: a storage, or a whole program. Other lines give what stands there and what others do
-//! meanwhile; those that begin with `? ` are questions. The driver compares nothing and knows no case: what it is to answer
+//! meanwhile; those that begin with `? ` are questions, and those with `! ` are questions that are asked while memory is
+//! refused. The driver compares nothing and knows no case: what it is to answer
 //! stands beside the cases. Only that it is safe and ends is proved of it.
 #![tactic(auto)]
 
@@ -15,19 +16,20 @@ mod known;
 mod left;
 mod programs;
 mod run;
+mod starve;
 mod storages;
 mod subject;
 mod values;
 mod words;
 mod wrong;
 
-use crate::storages::carry_out;
+use crate::starve::carry_out_all;
 use std::io;
 
 /// Carries out the lines of one run, and prints what they are answered.
 fn print_run(rt: &HostRuntime, lines: &[&str]) -> io::Result<()> {
     let mut text = String::new(rt.alloc());
-    carry_out(rt.alloc(), lines, &mut text)?;
+    carry_out_all(rt.alloc(), lines, &mut text)?;
     print!(rt; "{text}")
 }
 

@@ -1,6 +1,5 @@
 //! A run over one storage: each question is asked, and its answer written.
 
-use crate::accesses;
 use crate::descriptions::call_in;
 use crate::forms::{write_changed, write_decoded, write_fronts};
 use crate::given::Given;
@@ -10,6 +9,7 @@ use crate::subject::Subject;
 use crate::values::{write_compatible, write_defined, write_hash, write_required, write_type};
 use crate::words::{first_word, named, number};
 use crate::wrong::{Wrong, write_answer};
+use crate::{accesses, starve};
 use iceoryx2_access::storage::{Service, Sha1Hasher, Storage};
 use iceoryx2_byte_form::bytes::encode;
 use iceoryx2_testing::script::Faulty;
@@ -33,7 +33,7 @@ impl<S: Storage> Service for Standing<S> {
 
 /// The storage of a run, and the slots.
 #[derive(Drop)]
-struct Run<S> {
+pub struct Run<S> {
     storage: Faulty<S>,
     places: Places,
 }
@@ -122,7 +122,7 @@ fn answer_value(
 
 impl<S: Subject> Run<S> {
     /// Writes what a question is answered.
-    fn answer(
+    pub fn answer(
         &mut self,
         alloc: Global,
         given: &mut Given,
@@ -250,7 +250,10 @@ pub fn run_lines<S: Subject>(
                 let done = run.answer(alloc, given, question, &mut answer);
                 write_answer(done, line, Some(answer.as_str()), text)?;
             }
-            None => write_answer(given.add(alloc, line), line, None, text)?,
+            None => match line.strip_prefix("! ") {
+                Some(question) => starve::ask(alloc, given, &mut run, question, text)?,
+                None => write_answer(given.add(alloc, line), line, None, text)?,
+            },
         }
     }
     Ok(())

@@ -15,6 +15,7 @@ use std::alloc::{AllocError, Global};
 use std::mem;
 use test_support::body::Body;
 use test_support::plain::Plain;
+use test_support::refusing::{Mode, Refused};
 
 /// The nodes of the journal's process.
 const OWN_NODES: [u64; 6] = [1, 2, 3, 4, 5, 6];
@@ -97,19 +98,34 @@ fn take_over(
     Ok(())
 }
 
+/// Whether a line is a question.
+fn is_question(line: &str) -> bool {
+    line.starts_with("? ") || line.starts_with("! ")
+}
+
 /// Carries out the lines of a run, and writes what they are answered. The storage is made after the lines before the first
-/// question. A program has none: what it is asked beside stands over an empty script.
-pub fn carry_out(alloc: Global, lines: &[&str], text: &mut String) -> Result<(), AllocError> {
-    let first = lines.iter().position(|line| line.starts_with("? "));
+/// question. A program has none: what it is asked beside stands over an empty script. Returns how many requests for memory
+/// were refused, which are those of its question that is starved.
+pub fn carry_out(
+    alloc: Global,
+    starving: Option<(Mode, u16)>,
+    lines: &[&str],
+    text: &mut String,
+) -> Result<Refused, AllocError> {
+    let first = lines.iter().position(|line| is_question(line));
     let count = first.unwrap_or(lines.len()).min(lines.len());
     let (front, lines) = lines.split_at(count);
     let mut given = Given::new(alloc);
+    given.starving = starving;
     take_over(alloc, &mut given, front, text)?;
     match given.over {
-        Over::Table => over_table::<StoredWorld>(alloc, &mut given, lines, text),
-        Over::Large => over_table::<WorldOver<Trees>>(alloc, &mut given, lines, text),
-        Over::Plain => over_plain(alloc, &mut given, lines, text),
-        Over::Journal | Over::Busy | Over::Full => over_journal(alloc, &mut given, lines, text),
-        _ => over_script(alloc, &mut given, lines, text),
+        Over::Table => over_table::<StoredWorld>(alloc, &mut given, lines, text)?,
+        Over::Large => over_table::<WorldOver<Trees>>(alloc, &mut given, lines, text)?,
+        Over::Plain => over_plain(alloc, &mut given, lines, text)?,
+        Over::Journal | Over::Busy | Over::Full => {
+            over_journal(alloc, &mut given, lines, text)?;
+        }
+        _ => over_script(alloc, &mut given, lines, text)?,
     }
+    Ok(given.refusals)
 }

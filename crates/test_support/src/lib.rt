@@ -2,7 +2,8 @@
 //! called, and a third table. Nothing of it is expected of the layer by itself: the tests have what they want.
 //!
 //! The third table is one in its plain form, written from the rules alone (`plain`, `standing`), beside those in sorted
-//! vectors and in trees by one trait (`body`), with commands over any storage (`places`).
+//! vectors and in trees by one trait (`body`), with commands over any storage (`places`). How requests for memory come to
+//! be refused is told in `refusing`.
 #![tactic(auto)]
 
 pub mod body;
@@ -12,6 +13,7 @@ pub mod patterns;
 pub mod places;
 pub mod plain;
 pub mod refusals;
+pub mod refusing;
 pub mod settings;
 mod standing;
 pub mod terms;
