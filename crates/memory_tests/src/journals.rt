@@ -1,10 +1,8 @@
 //! Calls over a journal that finds no memory, where what others appended is unread.
 
-use crate::asks::{Answer, answer_by};
-use crate::refusing::{Refused, Refusing, end, refuse};
-use crate::samples::{NAME, OTHERS, Pattern, prepared};
+use crate::samples::{NAME, OTHER, prepared};
 use crate::sessions::{call, is_opened};
-use crate::trial::{Mode, Tally, Trial, Wrong, each_request};
+use crate::trial::{Trial, Wrong, each_request};
 use iceoryx2_commands::command::{How, Reply};
 use iceoryx2_description::config::Config;
 use iceoryx2_journal::journal::Journal;
@@ -13,7 +11,9 @@ use iceoryx2_log::memory::MemoryLog;
 use iceoryx2_session::session::Session;
 use iceoryx2_world::listing;
 use std::alloc::Global;
-use test_support::refusals::pattern_and_reason;
+use test_support::patterns::Pattern;
+use test_support::refusals::{By, Word, pattern_and_reason};
+use test_support::refusing::{Mode, Refused, Refusing, end, refuse};
 
 /// A session of a process that shares a log with others.
 type Sharing = Session<Journal<MemoryLog>>;
@@ -96,12 +96,10 @@ fn is_reported(reply: &Reply, refusing: Refusing) -> bool {
             Refusing::From(_) => false,
         },
         Reply::Refused(refusal) => {
-            let (_, reason) = pattern_and_reason(*refusal);
-            match answer_by(reason) {
-                Answer::OpenOutOfMemory => true,
-                Answer::CreateOutOfMemory => true,
-                Answer::InternalFailure => true,
-                Answer::ServiceInCorruptedState => true,
+            let (_, (_, by, word)) = pattern_and_reason(*refusal);
+            match (by, word) {
+                (By::Open | By::Create, Word::OutOfMemory) => true,
+                (_, Word::InternalFailure | Word::ServiceInCorruptedState) => true,
                 _ => false,
             }
         }
@@ -115,7 +113,7 @@ fn follow_on(
     followed: Followed,
     is_opened_already: bool,
     session: &mut Sharing,
-) -> Result<Option<Tally>, Wrong> {
+) -> Result<bool, Wrong> {
     let is_kept = is_as_its_log(alloc, session.storage())?;
     let slot = usize::from(is_opened_already);
     let again = call(
@@ -133,7 +131,7 @@ fn follow_on(
     let is_whole = log.taken() == log.entries().len();
     let is_wanted = is_granted || !followed.is_granted_then;
     if is_kept && is_whole && is_wanted && is_as_its_log(alloc, session.storage())? {
-        Ok(Some(Tally::ONE))
+        Ok(true)
     } else {
         Err(Wrong::Changed)
     }
@@ -145,14 +143,14 @@ fn attempt_in(
     followed: Followed,
     refusing: Refusing,
     session: &mut Sharing,
-) -> Result<Option<Tally>, Wrong> {
+) -> Result<bool, Wrong> {
     let command = call(alloc, followed.pattern, followed.how, (1, 0, followed.text))?;
     refuse(alloc, refusing);
     let reply = session.carry_out(command);
     match end(alloc) {
         Refused::None => {
             if is_opened(&reply) {
-                Ok(None)
+                Ok(false)
             } else {
                 Err(Wrong::Answer)
             }
@@ -168,7 +166,7 @@ fn attempt_in(
 }
 
 impl Trial for Followed {
-    fn attempt(&mut self, alloc: Global, refusing: Refusing) -> Result<Option<Tally>, Wrong> {
+    fn attempt(&mut self, alloc: Global, refusing: Refusing) -> Result<bool, Wrong> {
         let entries = entries_of_others(alloc, self.pattern)?;
         let nodes = prepared([1u64].to_vec(alloc))?;
         let mut session = sharing(alloc, entries, nodes);
@@ -179,16 +177,16 @@ impl Trial for Followed {
 }
 
 /// Three calls of a pattern behind what others appended: for their service, and for another one.
-pub fn calls(alloc: Global, mode: Mode, pattern: Pattern) -> Result<Tally, Wrong> {
+pub fn calls(alloc: Global, mode: Mode, pattern: Pattern) -> Result<u64, Wrong> {
     let is_alone = match mode {
         Mode::Alone => true,
         Mode::AndLater => false,
     };
-    let mut all = Tally::NONE;
+    let mut all = 0u64;
     for (how, text, is_granted_then) in [
         (How::Open, NAME, true),
         (How::OpenOrCreate, NAME, true),
-        (How::Create, OTHERS[0], is_alone),
+        (How::Create, OTHER, is_alone),
     ] {
         let mut followed = Followed {
             pattern,
@@ -196,7 +194,7 @@ pub fn calls(alloc: Global, mode: Mode, pattern: Pattern) -> Result<Tally, Wrong
             text,
             is_granted_then,
         };
-        all = all.and(each_request(alloc, &mut followed, mode)?);
+        all = all.saturating_add(each_request(alloc, &mut followed, mode)?);
     }
     Ok(all)
 }

@@ -4,48 +4,19 @@ use crate::trial::Wrong;
 use iceoryx2_access::storage::{ServiceNameHasher, Sha1Hasher};
 use iceoryx2_attribute::attribute::{AttributeSet, AttributeSpecifier, AttributeVerifier};
 use iceoryx2_description::description::{MessagingPattern, ServiceHash, ServiceName, StaticConfig};
-use iceoryx2_types::types::publish_subscribe::Header;
-use iceoryx2_types::types::request_response::{RequestHeader, ResponseHeader};
+use iceoryx2_table::table::Table;
 use iceoryx2_types::types::{MessageTypeDetails, TypeDetail, TypeVariant, ZeroCopySend};
 use std::alloc::Global;
-pub use test_support::patterns::{ALL as PATTERNS, Pattern};
-use test_support::settings::{EVENTS, MESSAGES, REQUESTS, events, messages, requests};
+use test_support::settings::{EVENTS, events};
 
 /// The service that is called for.
 pub const NAME: &str = "xample";
 
-/// The services that may stand beside it.
-pub const OTHERS: [&str; 9] = ["s0", "s1", "s2", "s3", "s4", "s5", "s6", "s7", "s8"];
+/// Another service.
+pub const OTHER: &str = "s0";
 
 /// Keys in no order.
 pub const KEYS: [&str; 9] = ["d", "h", "b", "a", "i", "f", "c", "g", "e"];
-
-/// What a pattern is called.
-pub fn label(pattern: Pattern) -> &'static str {
-    match pattern {
-        Pattern::Event => "event",
-        Pattern::PublishSubscribe => "publish-subscribe",
-        Pattern::RequestResponse => "request-response",
-    }
-}
-
-/// The same with each combination of its types.
-pub fn label_with_types(pattern: Pattern) -> &'static str {
-    match pattern {
-        Pattern::Event => "event",
-        Pattern::PublishSubscribe => "publish-subscribe of nine types",
-        Pattern::RequestResponse => "request-response of nine types",
-    }
-}
-
-/// Its prefix in hashes.
-fn prefix(pattern: Pattern) -> u8 {
-    match pattern {
-        Pattern::Event => b'e',
-        Pattern::PublishSubscribe => b'p',
-        Pattern::RequestResponse => b'r',
-    }
-}
 
 /// What was made, if there was memory.
 pub fn prepared<T: Drop, E: Drop>(made: Result<T, E>) -> Result<T, Wrong> {
@@ -60,9 +31,9 @@ pub fn name(alloc: Global, text: &str) -> Result<ServiceName, Wrong> {
     prepared(ServiceName::new(alloc, text))
 }
 
-/// The hash of the service that is called for.
-pub fn hash(alloc: Global, pattern: Pattern) -> Result<ServiceHash, Wrong> {
-    Ok(Sha1Hasher::hash(prefix(pattern), &name(alloc, NAME)?))
+/// The hash of the events that are called for.
+pub fn hash(alloc: Global) -> Result<ServiceHash, Wrong> {
+    Ok(Sha1Hasher::hash(b'e', &name(alloc, NAME)?))
 }
 
 /// A type of messages.
@@ -117,27 +88,18 @@ pub fn message<H: ZeroCopySend>(alloc: Global) -> Result<MessageTypeDetails, Wro
     prepared(MessageTypeDetails::from::<H, u32, u8>(alloc, TypeVariant::Dynamic))
 }
 
-/// The default settings of a pattern.
-fn settings(alloc: Global, pattern: Pattern) -> Result<MessagingPattern, Wrong> {
-    Ok(match pattern {
-        Pattern::Event => MessagingPattern::Event(events(EVENTS)),
-        Pattern::PublishSubscribe => {
-            let settings = messages(MESSAGES, true, message::<Header>(alloc)?);
-            MessagingPattern::PublishSubscribe(settings)
-        }
-        Pattern::RequestResponse => {
-            let request = message::<RequestHeader>(alloc)?;
-            let response = message::<ResponseHeader>(alloc)?;
-            MessagingPattern::RequestResponse(requests([true; 3], REQUESTS, request, response))
-        }
-    })
+/// The description of events with these attributes.
+pub fn description(alloc: Global, attributes: AttributeSet) -> Result<StaticConfig, Wrong> {
+    let settings = events(EVENTS);
+    Ok(StaticConfig::new(
+        hash(alloc)?,
+        name(alloc, NAME)?,
+        attributes,
+        MessagingPattern::Event(settings),
+    ))
 }
 
-/// The description of a service with attributes.
-pub fn description(alloc: Global, pattern: Pattern) -> Result<StaticConfig, Wrong> {
-    let attributes: AttributeSet = specifier(alloc)?.into_attributes();
-    let settings = settings(alloc, pattern)?;
-    let name = name(alloc, NAME)?;
-    let hash = hash(alloc, pattern)?;
-    Ok(StaticConfig::new(hash, name, attributes, settings))
+/// Lets a table go. It is dropped here alone, since each function that drops one takes long to prove.
+pub fn drop_table(table: Table) {
+    let _table = table;
 }

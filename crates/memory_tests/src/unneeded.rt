@@ -1,10 +1,8 @@
 //! What asks for no memory, with every request refused.
 
-use crate::asks::{self, Answer, Asks, Counted, Over};
-use crate::samples::{self, NAME, Pattern, prepared};
-use crate::seen::drop_table;
-use crate::trial::{Tally, Wrong, refuse_all, without_memory};
-use iceoryx2_builder::builder::{Node, event};
+use crate::samples::{self, NAME, drop_table, prepared};
+use crate::trial::{Wrong, refuse_all, without_memory};
+use iceoryx2_builder::builder::Node;
 use iceoryx2_commands::command::{EventSetter, RequestResponseSetter};
 use iceoryx2_description::config::Config;
 use iceoryx2_description::description::{ServiceHash, ServiceName};
@@ -14,7 +12,6 @@ use iceoryx2_errors::error::{CloseError, EventOpenError, EventOpenOrCreateError}
 use iceoryx2_rounds::port_factory::event::PortFactory;
 use iceoryx2_table::local::Local;
 use iceoryx2_table::table::Table;
-use iceoryx2_testing::script::Faulty;
 use iceoryx2_types::types::publish_subscribe::Header;
 use iceoryx2_types::types::{
     Alignment, CustomHeaderMarker, CustomPayloadMarker, Slice, TypeDetail,
@@ -27,7 +24,7 @@ fn drop_builder<B: Drop>(builder: B) {
 }
 
 /// The setters of events, behind the choice of the pattern.
-fn set_events(alloc: Global) -> Result<Tally, Wrong> {
+fn set_events(alloc: Global) -> Result<u64, Wrong> {
     let node = Node::<Local>::new(1, Config::default());
     let name = samples::name(alloc, NAME)?;
     refuse_all(alloc);
@@ -57,7 +54,7 @@ fn name_and_types(alloc: Global) -> Result<(ServiceName, TypeDetail, TypeDetail)
 }
 
 /// The setters of publish-subscribe, with another user header.
-fn set_messages(alloc: Global) -> Result<Tally, Wrong> {
+fn set_messages(alloc: Global) -> Result<u64, Wrong> {
     let node = Node::<Local>::new(1, Config::default());
     let (name, payload, user_header) = name_and_types(alloc)?;
     let Some(alignment) = Alignment::new(16) else {
@@ -84,7 +81,7 @@ fn set_messages(alloc: Global) -> Result<Tally, Wrong> {
 }
 
 /// The setters of request-response, with other user headers.
-fn set_requests(alloc: Global) -> Result<Tally, Wrong> {
+fn set_requests(alloc: Global) -> Result<u64, Wrong> {
     let node = Node::<Local>::new(1, Config::default());
     let (name, payload, user_header) = name_and_types(alloc)?;
     refuse_all(alloc);
@@ -111,16 +108,16 @@ fn set_requests(alloc: Global) -> Result<Tally, Wrong> {
 }
 
 /// The setters of all patterns.
-pub fn set(alloc: Global) -> Result<Tally, Wrong> {
+pub fn set(alloc: Global) -> Result<u64, Wrong> {
     Ok(
         set_events(alloc)?
-            .and(set_messages(alloc)?)
-            .and(set_requests(alloc)?),
+            .saturating_add(set_messages(alloc)?)
+            .saturating_add(set_requests(alloc)?),
     )
 }
 
 /// What is required of attributes, and whether messages are compatible.
-pub fn judge(alloc: Global) -> Result<Tally, Wrong> {
+pub fn judge(alloc: Global) -> Result<u64, Wrong> {
     let attributes = samples::specifier(alloc)?;
     let met = samples::verifier(alloc)?;
     let unmet = samples::requirements(alloc, 2)?;
@@ -133,37 +130,21 @@ pub fn judge(alloc: Global) -> Result<Tally, Wrong> {
 }
 
 /// Tells a creator in a description.
-pub fn add_creator(alloc: Global) -> Result<Tally, Wrong> {
-    let description = samples::description(alloc, Pattern::Event)?;
+pub fn add_creator(alloc: Global) -> Result<u64, Wrong> {
+    let description = samples::description(alloc, samples::specifier(alloc)?.into_attributes())?;
     refuse_all(alloc);
     let answer = description.with_creator(7);
     without_memory(alloc, answer.creator() == Some(7))
 }
 
 /// Writes an error into a text that has room for it.
-pub fn display(alloc: Global) -> Result<Tally, Wrong> {
+pub fn display(alloc: Global) -> Result<u64, Wrong> {
     let error = EventOpenOrCreateError::EventOpenError(EventOpenError::OutOfMemory);
     let mut text = prepared(String::with_capacity(alloc, 200))?;
     refuse_all(alloc);
     let is_written = write!(text, "{error}").is_ok();
     let wanted = "EventOpenOrCreateError::EventOpenError(OutOfMemory)";
     without_memory(alloc, is_written && text.as_str() == wanted)
-}
-
-/// An event open of a service that isn't there.
-fn open_nothing(alloc: Global, storage: &mut Counted) -> Result<Tally, Wrong> {
-    let builder: event::Builder<Over> = Asks::builder(alloc, 1, NAME)?;
-    refuse_all(alloc);
-    let answer = asks::open(builder, None, storage);
-    without_memory(alloc, answer == Answer::DoesNotExist)
-}
-
-/// The same over a new table.
-pub fn open(alloc: Global) -> Result<Tally, Wrong> {
-    let mut storage = Faulty::new(Table::new(alloc), Vec::new(alloc));
-    let came = open_nothing(alloc, &mut storage);
-    drop_table(storage.into_inner());
-    came
 }
 
 /// Events that node 1 creates.
@@ -181,7 +162,7 @@ fn close_factory(
     alloc: Global,
     factory: PortFactory<Local>,
     table: &mut Table,
-) -> Result<Tally, Wrong> {
+) -> Result<u64, Wrong> {
     refuse_all(alloc);
     let is_closed = match factory.close(table) {
         Ok(()) => true,
@@ -202,7 +183,7 @@ fn read_factory(
     hash: ServiceHash,
     factory: PortFactory<Local>,
     table: &Table,
-) -> Result<Tally, Wrong> {
+) -> Result<u64, Wrong> {
     refuse_all(alloc);
     let is_reported = factory.name().as_str() == NAME
         && factory.service_hash() == &hash
@@ -218,7 +199,7 @@ fn read_factory(
 }
 
 /// A factory that is closed.
-pub fn close(alloc: Global) -> Result<Tally, Wrong> {
+pub fn close(alloc: Global) -> Result<u64, Wrong> {
     let mut table = Table::new(alloc);
     let came = match created(alloc, &mut table) {
         Ok(factory) => close_factory(alloc, factory, &mut table),
@@ -229,8 +210,8 @@ pub fn close(alloc: Global) -> Result<Tally, Wrong> {
 }
 
 /// A factory that is read and abandoned, and what its table tells of it.
-pub fn read(alloc: Global) -> Result<Tally, Wrong> {
-    let hash = samples::hash(alloc, Pattern::Event)?;
+pub fn read(alloc: Global) -> Result<u64, Wrong> {
+    let hash = samples::hash(alloc)?;
     let mut table = Table::new(alloc);
     let came = match created(alloc, &mut table) {
         Ok(factory) => read_factory(alloc, hash, factory, &table),
