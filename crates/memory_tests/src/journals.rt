@@ -10,9 +10,9 @@ use iceoryx2_log::entry::Entry;
 use iceoryx2_log::memory::MemoryLog;
 use iceoryx2_session::session::Session;
 use iceoryx2_world::listing;
+use negotiate_serve::reply::describe;
 use std::alloc::Global;
 use test_support::patterns::Pattern;
-use test_support::refusals::{By, Word, pattern_and_reason};
 use test_support::refusing::{Mode, Refused, Refusing, end, refuse};
 
 /// A session of a process that shares a log with others.
@@ -87,23 +87,28 @@ struct Followed {
     is_granted_then: bool,
 }
 
+/// What the text of a refusal has that says that there was no memory, or that the log refused.
+const REPORTS: [&str; 3] = ["OutOfMemory", "InternalFailure", "ServiceInCorruptedState"];
+
+/// Whether a text has one of these words.
+fn has_report(text: &str) -> bool {
+    REPORTS.iter().any(|word| text.contains(*word))
+}
+
 /// Whether a reply says that there was no memory, or that the log refused. An open may go on by another round, unless
 /// that finds no memory either.
-fn is_reported(reply: &Reply, refusing: Refusing) -> bool {
+fn is_reported(alloc: Global, reply: &Reply, refusing: Refusing) -> Result<bool, Wrong> {
     match reply {
         Reply::Opened { slot: _, number: _ } => match refusing {
-            Refusing::One(_) => true,
-            Refusing::From(_) => false,
+            Refusing::One(_) => Ok(true),
+            Refusing::From(_) => Ok(false),
         },
-        Reply::Refused(refusal) => {
-            let (_, (_, by, word)) = pattern_and_reason(*refusal);
-            match (by, word) {
-                (By::Open | By::Create, Word::OutOfMemory) => true,
-                (_, Word::InternalFailure | Word::ServiceInCorruptedState) => true,
-                _ => false,
-            }
+        Reply::Refused(_) => {
+            let mut text = String::new(alloc);
+            prepared(describe(reply, 0, &mut text))?;
+            Ok(has_report(text.as_str()))
         }
-        _ => false,
+        _ => Ok(false),
     }
 }
 
@@ -156,7 +161,7 @@ fn attempt_in(
             }
         }
         _ => {
-            if is_reported(&reply, refusing) {
+            if is_reported(alloc, &reply, refusing)? {
                 follow_on(alloc, followed, is_opened(&reply), session)
             } else {
                 Err(Wrong::NotReported)

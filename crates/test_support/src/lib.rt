@@ -1,5 +1,5 @@
-//! What the crates of tests share: settings, the words of lines and terms, calls of any pattern, what their refusals are
-//! called, and a third table. Nothing of it is expected of the layer by itself: the tests have what they want.
+//! What the crates of tests share: settings, the words of lines and terms, calls of any pattern, and a third table.
+//! Nothing of it is expected of the layer by itself: the tests have what they want.
 //!
 //! The third table is one in its plain form, written from the rules alone (`plain`, `standing`), beside those in sorted
 //! vectors and in trees by one trait (`body`), with commands over any storage (`places`). How requests for memory come to
@@ -12,7 +12,6 @@ pub mod lines;
 pub mod patterns;
 pub mod places;
 pub mod plain;
-pub mod refusals;
 pub mod refusing;
 pub mod settings;
 mod standing;

@@ -7,10 +7,3 @@ pub enum Pattern {
     PublishSubscribe,
     RequestResponse,
 }
-
-/// All of them.
-pub const ALL: [Pattern; 3] = [
-    Pattern::Event,
-    Pattern::PublishSubscribe,
-    Pattern::RequestResponse,
-];
