@@ -129,26 +129,73 @@ const DOINGS: &[&[Deed]] = &[
     &[Lock, Make(5), RemoveDescription, Publish(36), Join],
 ];
 
-/// The description of a service for so many nodes.
-pub fn described(rt: &impl Abort, alloc: Global, subject: Subject, nodes: u64) -> StaticConfig {
+/// For how many nodes services are published.
+const NODES: [u64; 4] = [1, 2, 3, 36];
+
+/// The bytes of a description for so many nodes, under the hash of its service.
+type Form = (ServiceHash, u64, Vec<u8>);
+
+/// The bytes of each service's descriptions. A call makes each of them, which takes long, so it is made once for many
+/// drawn steps.
+#[derive(Drop)]
+pub struct Forms {
+    pub alloc: Global,
+    forms: Vec<Form>,
+}
+
+/// The bytes of the description of a service for so many nodes.
+fn form_of(rt: &impl Abort, alloc: Global, subject: Subject, nodes: u64) -> Vec<u8> {
     let (word, name) = (subject.word, subject.name);
     let line = granted(
         rt,
         format!(in alloc; "{word} create 0 0 {name} max_nodes={nodes}"),
     );
-    let bytes = there(rt, created(alloc, line.as_str()));
-    granted(rt, decode(alloc, &bytes))
+    there(rt, created(alloc, line.as_str()))
+}
+
+/// Puts those of a service behind others.
+fn push_forms(rt: &impl Abort, alloc: Global, subject: Subject, forms: &mut Vec<Form>) {
+    for nodes in NODES {
+        let form = form_of(rt, alloc, subject, nodes);
+        push(rt, forms, (subject.hash, nodes, form));
+    }
+}
+
+impl Forms {
+    /// Those of all services.
+    pub fn new(rt: &impl Abort, alloc: Global) -> Forms {
+        let mut forms = Vec::new(alloc);
+        for subject in SUBJECTS {
+            push_forms(rt, alloc, subject, &mut forms);
+        }
+        Forms { alloc, forms }
+    }
+
+    /// The bytes of the description of a service for so many nodes.
+    pub fn bytes(&self, rt: &impl Abort, subject: Subject, nodes: u64) -> &[u8] {
+        for (hash, count, bytes) in &self.forms {
+            if *hash == subject.hash && *count == nodes {
+                return bytes;
+            }
+        }
+        panic!(rt; "no such form")
+    }
+
+    /// That description.
+    fn described(&self, rt: &impl Abort, subject: Subject, nodes: u64) -> StaticConfig {
+        granted(rt, decode(self.alloc, self.bytes(rt, subject, nodes)))
+    }
 }
 
 /// That deed as an act.
-fn act(rt: &impl Abort, alloc: Global, subject: Subject, deed: Deed) -> Act {
+fn act(rt: &impl Abort, forms: &Forms, subject: Subject, deed: Deed) -> Act {
     match deed {
         Read => Act::Read,
         Lock => Act::Lock,
         RemoveSegment => Act::RemoveSegment,
         RemoveDescription => Act::RemoveDescription,
         Make(max_nodes) => Act::Make { max_nodes },
-        Publish(nodes) => Act::Publish(described(rt, alloc, subject, nodes)),
+        Publish(nodes) => Act::Publish(forms.described(rt, subject, nodes)),
         Join => Act::Join,
         Leave => Act::Leave,
     }
@@ -157,7 +204,7 @@ fn act(rt: &impl Abort, alloc: Global, subject: Subject, deed: Deed) -> Act {
 /// Puts the steps of a peer at a service behind others.
 pub fn push_steps(
     rt: &impl Abort,
-    alloc: Global,
+    forms: &Forms,
     subject: Subject,
     steps: &mut Vec<Step>,
     (peer, deeds): (u64, &[Deed]),
@@ -166,22 +213,22 @@ pub fn push_steps(
         let step = Step {
             peer,
             hash: subject.hash,
-            act: act(rt, alloc, subject, deed),
+            act: act(rt, forms, subject, deed),
         };
         push(rt, steps, step);
     }
 }
 
 /// Draws a batch: no step, or those of one peer at one service.
-fn drawn_batch(rt: &impl Abort, alloc: Global, seed: &mut u64) -> Vec<Step> {
-    let mut steps = Vec::new(alloc);
+fn drawn_batch(rt: &impl Abort, forms: &Forms, seed: &mut u64) -> Vec<Step> {
+    let mut steps = Vec::new(forms.alloc);
     if draw(seed).is_multiple_of(2) {
         return steps;
     }
     let peer = drawn(rt, seed, &[7u64, 8]);
     let subject = drawn(rt, seed, &SUBJECTS);
     let deeds = drawn(rt, seed, DOINGS);
-    push_steps(rt, alloc, subject, &mut steps, (peer, deeds));
+    push_steps(rt, forms, subject, &mut steps, (peer, deeds));
     steps
 }
 
@@ -189,10 +236,10 @@ fn drawn_batch(rt: &impl Abort, alloc: Global, seed: &mut u64) -> Vec<Step> {
 const BATCHES: u64 = 40;
 
 /// Draws the batches of a schedule.
-pub fn drawn_batches(rt: &impl Abort, alloc: Global, seed: &mut u64) -> Vec<Vec<Step>> {
-    let mut batches = Vec::new(alloc);
+pub fn drawn_batches(rt: &impl Abort, forms: &Forms, seed: &mut u64) -> Vec<Vec<Step>> {
+    let mut batches = Vec::new(forms.alloc);
     for _batch in 0..BATCHES {
-        push(rt, &mut batches, drawn_batch(rt, alloc, seed));
+        push(rt, &mut batches, drawn_batch(rt, forms, seed));
     }
     batches
 }

@@ -1,8 +1,7 @@
 //! Courses from a world to a later one, after histories that are drawn by chance.
 
-use crate::drawn::{SUBJECTS, Subject, described, drawn};
+use crate::drawn::{Forms, SUBJECTS, Subject, drawn};
 use crate::journals::support::{assert_same, copies, draw, granted, push};
-use iceoryx2_byte_form::bytes;
 use iceoryx2_description::description::{HASH_LENGTH, ServiceHash};
 use iceoryx2_journal::course::Course;
 use iceoryx2_journal::follow::follow;
@@ -64,10 +63,17 @@ fn beginning(world: &StoredWorld, hash: &ServiceHash) -> Deed {
 }
 
 /// The publication of a service for so many nodes.
-fn publication(rt: &impl Abort, alloc: Global, subject: Subject, number: u64, nodes: u64) -> Deed {
-    let description = described(rt, alloc, subject, nodes);
-    let bytes = FormBytes::new(granted(rt, bytes::encode(alloc, &description)));
-    Deed::Publish { number, bytes }
+fn publication(
+    rt: &impl Abort,
+    forms: &Forms,
+    subject: Subject,
+    (number, nodes): (u64, u64),
+) -> Deed {
+    let bytes = Vec::from_slice(forms.alloc, forms.bytes(rt, subject, nodes));
+    Deed::Publish {
+        number,
+        bytes: FormBytes::new(granted(rt, bytes)),
+    }
 }
 
 /// One of the node's tickets for the service: the first one, or the last one.
@@ -84,7 +90,7 @@ fn ticket_of(world: &StoredWorld, node: u64, hash: &ServiceHash, last: bool) -> 
 /// Draws what a node does that is so far with a service.
 fn drawn_deed(
     rt: &impl Abort,
-    alloc: Global,
+    forms: &Forms,
     seed: &mut u64,
     world: &StoredWorld,
     node: u64,
@@ -113,7 +119,7 @@ fn drawn_deed(
                     Some(segment) => segment.capacity(),
                     None => 1,
                 };
-                publication(rt, alloc, subject, number, nodes)
+                publication(rt, forms, subject, (number, nodes))
             }
             75..80 => Deed::RemoveSegment,
             _ => Deed::RemoveDescription,
@@ -135,7 +141,7 @@ fn drawn_deed(
 /// Draws an entry of one of the nodes, but for one of them.
 fn drawn_entry(
     rt: &impl Abort,
-    alloc: Global,
+    forms: &Forms,
     seed: &mut u64,
     world: &StoredWorld,
     idle: u64,
@@ -150,7 +156,7 @@ fn drawn_entry(
         };
     }
     let subject = drawn(rt, seed, &SUBJECTS);
-    let deed = drawn_deed(rt, alloc, seed, world, node, subject);
+    let deed = drawn_deed(rt, forms, seed, world, node, subject);
     Entry {
         node,
         hash: subject.hash,
@@ -161,15 +167,15 @@ fn drawn_entry(
 /// Draws deeds by all nodes but one, and follows those that are granted.
 fn drawn_history(
     rt: &impl Abort,
-    alloc: Global,
+    forms: &Forms,
     seed: &mut u64,
     world: &mut StoredWorld,
     idle: u64,
 ) -> Vec<Entry> {
-    let mut entries = Vec::new(alloc);
+    let mut entries = Vec::new(forms.alloc);
     for _deed in 0..draw(seed) % DEEDS {
-        let entry = drawn_entry(rt, alloc, seed, world, idle);
-        if follow(alloc, world, &entry).is_ok() {
+        let entry = drawn_entry(rt, forms, seed, world, idle);
+        if follow(forms.alloc, world, &entry).is_ok() {
             push(rt, &mut entries, entry);
         }
     }
@@ -239,23 +245,23 @@ fn drawn_front<'a>(seed: &mut u64, entries: &'a [Entry]) -> &'a [Entry] {
 }
 
 /// The entries that come to the first world, those from a front of the history on to the second one, and that world.
-pub type Drawn = (Vec<Entry>, Vec<Entry>, StoredWorld);
+type Drawn = (Vec<Entry>, Vec<Entry>, StoredWorld);
 
 /// Draws two worlds.
-fn drawn_worlds(rt: &impl Abort, alloc: Global, start: Start, idle: u64, history: u64) -> Drawn {
-    let mut seed = history;
+fn drawn_worlds(rt: &impl Abort, forms: &Forms, start: Start, idle: u64, history: u64) -> Drawn {
+    let (alloc, mut seed) = (forms.alloc, history);
     let mut world = StoredWorld::starting_at(alloc, COUNTER);
     let before = match start {
         Start::Nothing => Vec::new(alloc),
-        Start::Front => drawn_history(rt, alloc, &mut seed, &mut world, 0),
+        Start::Front => drawn_history(rt, forms, &mut seed, &mut world, 0),
         Start::Middle => {
-            let _front = drawn_history(rt, alloc, &mut seed, &mut world, 0);
+            let _front = drawn_history(rt, forms, &mut seed, &mut world, 0);
             let mut nothing = StoredWorld::starting_at(alloc, COUNTER);
             let (course, _) = travelled(rt, alloc, &mut nothing, &world);
             copies(rt, alloc, drawn_front(&mut seed, &course))
         }
     };
-    let between = drawn_history(rt, alloc, &mut seed, &mut world, idle);
+    let between = drawn_history(rt, forms, &mut seed, &mut world, idle);
     (before, between, world)
 }
 
@@ -272,9 +278,10 @@ fn wanted(alloc: Global) -> Outcome {
 
 /// The course from the first world of a history, which follows from its number, to the second one: its outcome, and how
 /// many entries it has.
-pub fn outcome(rt: &impl Abort, alloc: Global, history: u64) -> (Outcome, usize) {
+fn outcome(rt: &impl Abort, forms: &Forms, history: u64) -> (Outcome, usize) {
+    let alloc = forms.alloc;
     let (start, idle) = start_of(history);
-    let (before, between, second) = drawn_worlds(rt, alloc, start, idle, history);
+    let (before, between, second) = drawn_worlds(rt, forms, start, idle, history);
     let mut first = world_of(rt, alloc, before.as_slice());
     let (course, is_granted) = travelled(rt, alloc, &mut first, &second);
     let is_named = course.iter().any(|entry| entry.node == idle);
@@ -289,8 +296,9 @@ pub fn outcome(rt: &impl Abort, alloc: Global, history: u64) -> (Outcome, usize)
 /// Follows the courses of the histories from this number on.
 fn compare_from(rt: &impl Abort, alloc: Global, first: u64) {
     let mut length = 0u64;
+    let forms = Forms::new(rt, alloc);
     for history in first..first.saturating_add(HISTORIES) {
-        let (found, entries) = outcome(rt, alloc, history);
+        let (found, entries) = outcome(rt, &forms, history);
         assert_same(rt, (history, found), (history, wanted(alloc)));
         length = length.saturating_add(entries as u64);
     }

@@ -1,7 +1,7 @@
 //! Commands that are drawn by chance beside other nodes, whose steps are drawn too: over a journal as over the plain
 //! table to which the same accesses are made in the same order.
 
-use crate::drawn::{drawn_batches, drawn_call, drawn_close};
+use crate::drawn::{Forms, drawn_batches, drawn_call, drawn_close};
 use crate::journals::recording::{Recorded, Recording};
 use crate::journals::support::{
     Tally, assert_same, copies, count, draw, granted, journal_of, listed_anew, log_beside, push,
@@ -90,9 +90,10 @@ fn found(
 
 /// Compares the two in one schedule, which follows from its seed. All entries are those of the plain table, and what a
 /// process lists that has them is what the journal lists. Gives how many entries others appended.
-fn compare(rt: &impl Abort, alloc: Global, schedule: u64, tally: &mut Tally) -> usize {
+fn compare(rt: &impl Abort, forms: &Forms, schedule: u64, tally: &mut Tally) -> usize {
+    let alloc = forms.alloc;
     let mut seed = schedule;
-    let mut table = Recording::new(alloc, drawn_batches(rt, alloc, &mut seed));
+    let mut table = Recording::new(alloc, drawn_batches(rt, forms, &mut seed));
     let commands = drawn_commands(rt, alloc, seed);
     let wanted = wanted(rt, alloc, &mut table, commands, tally);
 
@@ -125,8 +126,9 @@ const FEWEST: u64 = 250;
 fn compare_from(rt: &impl Abort, alloc: Global, first: u64) {
     let mut tally = (0, 0);
     let mut others = 0u64;
+    let forms = Forms::new(rt, alloc);
     for schedule in first..first.saturating_add(SCHEDULES) {
-        others = others.saturating_add(compare(rt, alloc, schedule, &mut tally) as u64);
+        others = others.saturating_add(compare(rt, &forms, schedule, &mut tally) as u64);
     }
     let (granted, refused) = tally;
     let enough = (granted >= FEWEST, refused >= FEWEST, others >= FEWEST);

@@ -1,6 +1,6 @@
 //! Commands that are drawn by chance beside peers whose steps are drawn too, over each body.
 
-use crate::drawn::{drawn_batches, drawn_call, drawn_close};
+use crate::drawn::{Forms, drawn_batches, drawn_call, drawn_close};
 use crate::support::{assert_same, draw, granted};
 use crate::tables::plain_session::Commanded;
 use iceoryx2_commands::command::{Command, Reply};
@@ -18,10 +18,10 @@ const SCHEDULES: u64 = 500;
 const COMMANDS: u64 = 8;
 
 /// A body's table at which drawn batches wait, and its free slots.
-fn started<B: Commanded>(rt: &impl Abort, alloc: Global, seed: &mut u64) -> B::Commands {
-    let mut table = B::new(alloc);
-    B::schedule(&mut table, drawn_batches(rt, alloc, seed));
-    B::over(rt, alloc, table)
+fn started<B: Commanded>(rt: &impl Abort, forms: &Forms, seed: &mut u64) -> B::Commands {
+    let mut table = B::new(forms.alloc);
+    B::schedule(&mut table, drawn_batches(rt, forms, seed));
+    B::over(rt, forms.alloc, table)
 }
 
 /// Draws a command. Seven of ten are calls, and then the place of the pattern is given too.
@@ -103,15 +103,15 @@ fn compare(
 }
 
 /// Compares the bodies in one schedule, which follows from its seed.
-fn compare_all(rt: &impl Abort, alloc: Global, schedule: u64, tally: &mut Tally) {
+fn compare_all(rt: &impl Abort, forms: &Forms, schedule: u64, tally: &mut Tally) {
     let (mut seed, mut once_more, mut again) = (schedule, schedule, schedule);
-    let mut in_vectors = started::<Local>(rt, alloc, &mut seed);
-    let mut in_trees = started::<ManyLocal>(rt, alloc, &mut once_more);
-    let mut in_plain = started::<Plain>(rt, alloc, &mut again);
+    let mut in_vectors = started::<Local>(rt, forms, &mut seed);
+    let mut in_trees = started::<ManyLocal>(rt, forms, &mut once_more);
+    let mut in_plain = started::<Plain>(rt, forms, &mut again);
     for command in 0..COMMANDS {
         compare(
             rt,
-            alloc,
+            forms.alloc,
             (schedule, command),
             (&mut in_vectors, &mut in_trees, &mut in_plain),
             (&mut seed, tally),
@@ -131,8 +131,9 @@ const FEWEST: u64 = 200;
 /// Compares the bodies in the schedules whose seeds begin with this one.
 fn compare_from(rt: &impl Abort, alloc: Global, first: u64) {
     let mut tally = [(0, 0); 3];
+    let forms = Forms::new(rt, alloc);
     for schedule in first..first.saturating_add(SCHEDULES) {
-        compare_all(rt, alloc, schedule, &mut tally);
+        compare_all(rt, &forms, schedule, &mut tally);
     }
     for outcomes in tally {
         let enough = (outcomes.0 >= FEWEST, outcomes.1 >= FEWEST);

@@ -1,6 +1,6 @@
 //! Steps of peers that are drawn one by one, whether they are allowed or not: each body makes the same of them.
 
-use crate::drawn::{DEEDS, SUBJECTS, Subject, drawn, push_steps};
+use crate::drawn::{DEEDS, Forms, SUBJECTS, Subject, drawn, push_steps};
 use crate::support::{assert_same, draw, granted, push};
 use iceoryx2_access::storage::{Existence, Storage};
 use iceoryx2_large_table::local::ManyLocal;
@@ -16,11 +16,11 @@ use test_support::plain::Plain;
 const BATCHES: u64 = 500;
 
 /// Draws a batch of steps at a service, each of one of three peers.
-fn drawn_steps(rt: &impl Abort, alloc: Global, subject: Subject, seed: &mut u64) -> Vec<Step> {
-    let mut steps = Vec::new(alloc);
+fn drawn_steps(rt: &impl Abort, forms: &Forms, subject: Subject, seed: &mut u64) -> Vec<Step> {
+    let mut steps = Vec::new(forms.alloc);
     for _ in 0..8 {
         let (peer, deed) = (draw(seed) % 3, drawn(rt, seed, DEEDS));
-        push_steps(rt, alloc, subject, &mut steps, (peer, &[deed]));
+        push_steps(rt, forms, subject, &mut steps, (peer, &[deed]));
     }
     steps
 }
@@ -31,14 +31,14 @@ type Seen = (Existence, Vec<Entry>, u64, usize);
 /// Draws two batches, which take the place of one that waits, runs the first at a table, and tells what is seen.
 fn ran<B: Body>(
     rt: &impl Abort,
-    alloc: Global,
+    forms: &Forms,
     subject: Subject,
     table: &mut B::Storage,
     mut seed: u64,
 ) -> (Seen, u64) {
-    let mut batches = Vec::new(alloc);
-    push(rt, &mut batches, drawn_steps(rt, alloc, subject, &mut seed));
-    push(rt, &mut batches, drawn_steps(rt, alloc, subject, &mut seed));
+    let mut batches = Vec::new(forms.alloc);
+    push(rt, &mut batches, drawn_steps(rt, forms, subject, &mut seed));
+    push(rt, &mut batches, drawn_steps(rt, forms, subject, &mut seed));
     B::schedule(table, batches);
     let existence = table.exists(&subject.hash);
     let listing = granted(rt, B::list(table));
@@ -68,15 +68,16 @@ fn found_also(found: Found, listing: &[Entry]) -> Found {
 }
 
 /// Compares the bodies after each of many batches at one service, and tells what was found.
-fn compared(rt: &impl Abort, alloc: Global, subject: Subject, mut seed: u64) -> Found {
+fn compared(rt: &impl Abort, forms: &Forms, subject: Subject, mut seed: u64) -> Found {
+    let alloc = forms.alloc;
     let mut in_vectors = Local::new(alloc);
     let mut in_trees = ManyLocal::new(alloc);
     let mut in_plain = Plain::new(alloc);
     let mut found = (false, false);
     for row in 0..BATCHES {
-        let (wanted, next) = ran::<Plain>(rt, alloc, subject, &mut in_plain, seed);
-        let (vectors, _) = ran::<Local>(rt, alloc, subject, &mut in_vectors, seed);
-        let (trees, _) = ran::<ManyLocal>(rt, alloc, subject, &mut in_trees, seed);
+        let (wanted, next) = ran::<Plain>(rt, forms, subject, &mut in_plain, seed);
+        let (vectors, _) = ran::<Local>(rt, forms, subject, &mut in_vectors, seed);
+        let (trees, _) = ran::<ManyLocal>(rt, forms, subject, &mut in_trees, seed);
         assert_same(rt, (row, &vectors), (row, &wanted));
         assert_same(rt, (row, &trees), (row, &wanted));
         found = found_also(found, &wanted.1);
@@ -89,7 +90,8 @@ fn compared(rt: &impl Abort, alloc: Global, subject: Subject, mut seed: u64) -> 
 
 #[test]
 fn drawn_steps_do_the_same_at_each_table(rt: HostRuntime) {
+    let forms = Forms::new(&rt, rt.alloc());
     for subject in SUBJECTS.iter().take(3) {
-        assert_same(&rt, compared(&rt, rt.alloc(), *subject, 7), (true, true));
+        assert_same(&rt, compared(&rt, &forms, *subject, 7), (true, true));
     }
 }
