@@ -201,7 +201,7 @@ class Judge:
             yield f"{self.inside} requests where none is needed"
         is_kept = word in ("fetch", "publish") and self.answer[0].isdigit()
         is_granted = is_kept or word in PATTERNS and self.answer.startswith("ok")
-        is_made = word in VALUES and not re.match("(Key|Value)Length at 1$|NameLength|Alignment", self.answer)
+        is_made = word in VALUES and not re.match("(Key|Value)Length at 1$|a type's (name|alignment) ", self.answer)
         if is_granted and not self.inside or is_made and not self.inside + self.outside:
             yield "no request was refused"
 
