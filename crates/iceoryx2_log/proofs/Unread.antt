@@ -1,8 +1,8 @@
 -- What of a list is taken, and what is unread.
-use Rattle.std.proofs.Common.{◌≡◌, ℕ, zero, suc, ◌+◌, ◌<◌, ◌≤◌, true, false, List, [], ◌∷◌, length, take, drop, refl, ap, ◌∙◌, arith}
+use Rattle.std.proofs.Common.{◌≡◌, ℕ, zero, suc, ◌+◌, ◌<◌, ◌≤◌, Bool, true, false, List, [], ◌∷◌, length, take, drop, refl, ap, ◌∙◌, arith}
 use Rattle.iceoryx2_log.specs.declared.entry.Entry.{Entry}
 use Rattle.iceoryx2_log.specs.Log.{Contents, accepted}
-use Rattle.iceoryx2_log.specs.Memory.{LogState, none_unread}
+use Rattle.iceoryx2_log.specs.Memory.{LogState, accepted_where, none_unread}
 
 pub some_unread : (n : ℕ) (xs : List Entry) → n < length xs → none_unread (drop n xs) ≡ false
 some_unread zero [] lt = absurd (omega arith)
@@ -37,9 +37,9 @@ accepted_one n xs lt =
     let next : n + 1 ≡ suc n = omega arith in
     ap (λ (k : ℕ). split_at k xs) next ∙ accepted_suc n xs lt
 
--- with other contents, and all else the same
+-- with other contents, nothing shown, and all else the same
 abbrev pub with_contents : LogState → Contents → LogState
-with_contents s c = record s { contents = c }
+with_contents s c = record s { contents = c; shown = false }
 
-abbrev pub with_accepted : LogState → LogState
-with_accepted s = with_contents s (accepted s.contents.taken s.contents.unread)
+abbrev pub with_accepted : Bool → LogState → LogState
+with_accepted shown s = with_contents s (accepted_where shown s)

@@ -1,5 +1,5 @@
 -- What a handle of a log knows of it, and what each call makes of that.
-use Rattle.std.specs.Prelude.{◌≡◌, List, [], ◌∷◌, ◌++◌, Option, Some, None}
+use Rattle.std.specs.Prelude.{◌≡◌, Bool, true, false, List, [], ◌∷◌, ◌++◌, Option, Some, None, Result, Ok, Err}
 use Rattle.iceoryx2_log.specs.declared.entry.Entry.{Entry}
 
 -- The entries that a handle has taken over or appended, in order, and those that stand behind them.
@@ -28,6 +28,12 @@ first (e ∷ entries) = Some e
 -- The first of the unread entries was found, and stays where it is.
 abbrev pub Shows : Option Entry → Contents → Contents → Type 0
 Shows found old new = (found ≡ first old.unread) × (new ≡ old)
+
+-- whether an entry was found
+abbrev pub is_shown : {E : Type 0} → Result (Option Entry) E → Bool
+is_shown (Ok (Some e)) = true
+is_shown (Ok None) = false
+is_shown (Err error) = false
 
 -- with the first of the unread entries taken over, where there is one
 abbrev pub accepted : List Entry → List Entry → Contents

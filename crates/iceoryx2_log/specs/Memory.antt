@@ -6,7 +6,7 @@ use Rattle.iceoryx2_access.specs.Counts.{count_up}
 use Rattle.iceoryx2_log.specs.declared.entry.Entry.{Entry}
 use Rattle.iceoryx2_log.specs.declared.log.LogError.{LogError}
 use Rattle.iceoryx2_log.specs.declared.log.LogError.TheVariants.{Busy, OutOfMemory, Failed, Damaged, Moved}
-use Rattle.iceoryx2_log.specs.Log.{Contents}
+use Rattle.iceoryx2_log.specs.Log.{Contents, accepted}
 
 pub record LogState : Type 0 where
   pub contents : Contents
@@ -15,6 +15,8 @@ pub record LogState : Type 0 where
   -- what others append before the next holds, a batch for each
   pub batches : List (List Entry)
   pub held : Bool
+  -- whether the first of the unread entries was shown
+  pub shown : Bool
   -- how often was asked to hold it, and which of these find it busy, counted from 1
   pub holds : ℕ
   pub busy : List ℕ
@@ -59,6 +61,13 @@ Holds old (Err OutOfMemory) new = (old.held ≡ false) × (is_listed (count_up o
     × (new ≡ hold_counted old)
 Holds old (Err Damaged) new = ⊥
 Holds old (Err Moved) new = ⊥
+
+-- ---- accept
+
+-- The first of the unread entries is taken over, where it was shown.
+abbrev pub accepted_where : Bool → LogState → Contents
+accepted_where true s = accepted s.contents.taken s.contents.unread
+accepted_where false s = s.contents
 
 -- ---- append
 

@@ -7,8 +7,9 @@
 //! entries with one form are equal, no form is the front of another, and a form whose end is missing is cut short.
 //!
 //! The trait `Log` has what each call makes of what the handle has taken and of what is unread, where these are
-//! known (`WhereKnown`). `MemoryLog` keeps it, and its holds and appends are exact but for memory (`Holds`,
-//! `AppendsOne`).
+//! known (`WhereKnown`), of whether the handle holds the log (`held`), and of whether `next` has shown the entry that
+//! `accept` takes over (`shown`). A hold is granted only where the handle doesn't hold the log, and an append only where
+//! it does. `MemoryLog` keeps it, and its holds and appends are exact but for memory (`Holds`, `AppendsOne`).
 #![tactic(auto)]
 
 pub mod entry;

@@ -1,8 +1,9 @@
 //! A log that processes share.
 
-ghost use Rattle.std.specs.Prelude.{◌≡◌, Option, None, IfOk, OnOk, OnErr, IsTrue};
+ghost use Rattle.std.specs.Prelude.{◌≡◌, Option, None, Bool, true, false, IfOk, OnOk, OnErr, IsTrue};
+ghost use Rattle.std.specs.Prelude.{if◌then◌else◌};
 ghost use Rattle.iceoryx2_log.specs.declared.log.LogError.TheVariants.{OutOfMemory};
-ghost use Rattle.iceoryx2_log.specs.Log.{Contents, WhereKnown, Grows, Shows, Accepts, Appends};
+ghost use Rattle.iceoryx2_log.specs.Log.{Contents, WhereKnown, Grows, Shows, Accepts, Appends, is_shown};
 
 use crate::entry::Entry;
 use std::alloc::{AllocError, AllocFailed};
@@ -66,36 +67,55 @@ pub trait Log {
     /// What this handle has taken over or appended, in order, and what stands behind that, where it is known.
     ghost contents: { Self → Option Contents };
 
-    /// Holds the log, until `let_go`. `Busy` where others held it all of a bounded time.
+    /// Whether this handle holds the log.
+    ghost held: { Self → Bool };
+
+    /// Whether `next` has shown the entry that `accept` takes over.
+    ghost shown: { Self → Bool };
+
+    /// Holds the log, until `let_go`. `Busy` where others held it all of a bounded time. An `Err` where this handle
+    /// holds it already.
     fn hold(&mut self) -> Result<(), LogError>
         // What others appended stands behind what was unread before.
         ensures ok { OnOk result (WhereKnown Grows (contents self.old) (contents self.new)) }
-        ensures err { OnErr result (contents self.new ≡ contents self.old) };
+        ensures err { OnErr result (contents self.new ≡ contents self.old) }
+        ensures was_free { OnOk result (held self.old ≡ false) }
+        ensures held { OnOk result (held self.new ≡ true) }
+        ensures held_err { OnErr result (held self.new ≡ held self.old) };
 
     /// The next entry of another, which stays unread. `Failed` where the log isn't held, and `Moved` where it goes on
     /// in another place.
     fn next(&mut self) -> Result<Option<Entry>, LogError>
         ensures shows { IfOk result (λ found. WhereKnown (Shows found) (contents self.old) (contents self.new)) }
-        ensures same { contents self.new ≡ contents self.old };
+        ensures same { contents self.new ≡ contents self.old }
+        ensures held { held self.new ≡ held self.old }
+        ensures shown { shown self.new ≡ is_shown result };
 
-    /// The next entry has had its effect, and is read. Nothing changes where there is none.
+    /// The next entry, which was shown, has had its effect, and is read. Nothing is taken over where none was shown.
     fn accept(&mut self)
-        ensures { WhereKnown Accepts (contents self.old) (contents self.new) };
+        ensures shown { shown self.old ≡ true → WhereKnown Accepts (contents self.old) (contents self.new) }
+        ensures none { shown self.old ≡ false → contents self.new ≡ contents self.old }
+        ensures once { shown self.new ≡ false }
+        ensures held { held self.new ≡ held self.old };
 
     /// Appends an entry, all of it or nothing. From then on it stands, whatever becomes of this handle. `Failed` where
     /// the log isn't held, and where an entry is unread.
     fn append(&mut self, entry: &Entry) -> Result<(), LogError>
         ensures ok { OnOk result (WhereKnown (Appends entry.now) (contents self.old) (contents self.new)) }
-        ensures err { OnErr result (contents self.new ≡ contents self.old) };
+        ensures err { OnErr result (contents self.new ≡ contents self.old) }
+        ensures was_held { OnOk result (held self.old ≡ true) }
+        ensures held { held self.new ≡ held self.old };
 
     /// Lets go of the log.
     fn let_go(&mut self)
-        ensures { contents self.new ≡ contents self.old };
+        ensures same { contents self.new ≡ contents self.old }
+        ensures held { held self.new ≡ false };
 
     /// Lets go of the log and waits for a short time, so that others may append. The pauses of one wait are numbered
     /// from 0. False where the wait is over, and then the log stays as it was, held or not.
     fn pause(&mut self, number: u64) -> bool
-        ensures { contents self.new ≡ contents self.old };
+        ensures same { contents self.new ≡ contents self.old }
+        ensures held { held self.new ≡ (if result then false else held self.old) };
 
     // ---- compaction: the log goes on in another place, which begins with a snapshot. Only one whose contents are
     // known to no contract does so.
@@ -105,7 +125,8 @@ pub trait Log {
     /// stood.
     fn rejoin(&mut self) -> Result<u64, LogError>
         ensures ok { OnOk result (contents self.old ≡ None) }
-        ensures same { contents self.new ≡ contents self.old };
+        ensures same { contents self.new ≡ contents self.old }
+        ensures held { held self.new ≡ held self.old };
 
     /// Whether the next entry is one of the snapshot with which the log begins.
     fn is_in_snapshot(&self) -> bool
@@ -120,15 +141,18 @@ pub trait Log {
     /// held, an entry is unread, or too little would be saved. After an `Err` this handle stands where it stood.
     fn begin_compaction(&mut self, snapshot: &[Entry]) -> Result<u64, LogError>
         ensures ok { OnOk result (contents self.old ≡ None) }
-        ensures same { contents self.new ≡ contents self.old };
+        ensures same { contents self.new ≡ contents self.old }
+        ensures held { held self.new ≡ held self.old };
 
     /// Ends the compaction that was begun, where its snapshot was read: all handles find the new place from now on.
     /// After an `Err` this handle stands in the old place again.
     fn finish_compaction(&mut self) -> Result<(), LogError>
-        ensures { contents self.new ≡ contents self.old };
+        ensures same { contents self.new ≡ contents self.old }
+        ensures held { held self.new ≡ held self.old };
 
     /// Gives up the compaction that was begun, if one was: this handle stands in the old place again, and the next one
     /// is worth a try later.
     fn abandon_compaction(&mut self)
-        ensures { contents self.new ≡ contents self.old };
+        ensures same { contents self.new ≡ contents self.old }
+        ensures held { held self.new ≡ held self.old };
 }

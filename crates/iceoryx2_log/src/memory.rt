@@ -3,9 +3,9 @@
 ghost use Rattle.std.specs.Prelude.{◌≡◌, ◌≤◌, ◌↔◌, ◌++◌, ◌&&◌, not, true, false, [], ◌∷◌};
 ghost use Rattle.std.specs.Prelude.{length, take, drop, Err, IfOk, IfErr, OnOk, OnErr};
 ghost use Rattle.iceoryx2_access.specs.Counts.{count_up};
-ghost use Rattle.iceoryx2_log.specs.Log.{accepted, first};
+ghost use Rattle.iceoryx2_log.specs.Log.{first, is_shown};
 ghost use Rattle.iceoryx2_log.specs.declared.log.LogError.TheVariants.{OutOfMemory};
-ghost use Rattle.iceoryx2_log.specs.Memory.{is_listed, none_unread, with_batch};
+ghost use Rattle.iceoryx2_log.specs.Memory.{accepted_where, is_listed, none_unread, with_batch};
 
 use crate::entry::Entry;
 use crate::log::{Log, LogError};
@@ -76,6 +76,8 @@ pub struct MemoryLog {
     batches: Vec<Batch>,
     came: usize,
     held: bool,
+    // whether the next entry was shown
+    shown: bool,
     holds: u64,
     busy: Vec<u64>,
     appends: u64,
@@ -94,6 +96,7 @@ impl Drop for MemoryLog {
             batches: _,
             came: _,
             held: _,
+            shown: _,
             holds: _,
             busy: _,
             appends: _,
@@ -114,6 +117,7 @@ impl Model for MemoryLog {
       appended = l.appended.items;
       batches = drop l.came l.batches.items;
       held = l.held;
+      shown = l.shown;
       holds = l.holds;
       busy = l.busy.items;
       appends = l.appends;
@@ -134,6 +138,7 @@ impl MemoryLog {
           appended = [];
           batches = [];
           held = false;
+          shown = false;
           holds = 0;
           busy = [];
           appends = 0;
@@ -148,6 +153,7 @@ impl MemoryLog {
             batches: Vec::new(alloc),
             came: 0,
             held: false,
+            shown: false,
             holds: 0,
             busy: Vec::new(alloc),
             appends: 0,
@@ -167,6 +173,7 @@ impl MemoryLog {
             batches: _,
             came: _,
             held: _,
+            shown: _,
             holds: _,
             busy: _,
             appends: _,
@@ -276,6 +283,10 @@ impl Log for MemoryLog {
 
     ghost contents = { λ s. Some s.contents };
 
+    ghost held = { λ s. s.held };
+
+    ghost shown = { λ s. s.shown };
+
     /// The next batch comes. `Failed` where the log is held already, which is tested first.
     fn hold(&mut self) -> Result<(), LogError>
         ensures { Holds self.old result self.new }
@@ -296,23 +307,31 @@ impl Log for MemoryLog {
         ensures shows { IfOk result (λ found. (self.old.held ≡ true) × (found ≡ first self.old.contents.unread)) }
         ensures failed { (result ≡ Err LogError.Failed) ↔ (self.old.held ≡ false) }
         ensures memory { self.old.held ≡ true → IfErr result (λ e. e ≡ OutOfMemory) }
-        ensures same { self.new ≡ self.old }
+        ensures same { self.new ≡ record self.old { shown = is_shown result } }
     {
+        self.shown = false;
         if !self.held {
             return Err(LogError::Failed);
         }
         match self.entries.get(self.taken) {
             None => Ok(None),
             Some(entry) => match entry.clone() {
-                Ok(copy) => Ok(Some(copy)),
+                Ok(copy) => {
+                    self.shown = true;
+                    Ok(Some(copy))
+                }
                 Err(_) => Err(LogError::OutOfMemory),
             },
         }
     }
 
     fn accept(&mut self)
-        ensures { self.new ≡ record self.old { contents = accepted self.old.contents.taken self.old.contents.unread } }
+        ensures { self.new ≡ record self.old { contents = accepted_where self.old.shown self.old; shown = false } }
     {
+        if !self.shown {
+            return;
+        }
+        self.shown = false;
         if self.taken < self.entries.len() {
             self.taken += 1;
         }

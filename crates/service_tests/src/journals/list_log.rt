@@ -16,6 +16,7 @@ pub struct ListLog {
     list: List,
     taken: usize,
     is_held: bool,
+    is_shown: bool,
 }
 
 impl ListLog {
@@ -25,6 +26,7 @@ impl ListLog {
             list,
             taken: 0,
             is_held: false,
+            is_shown: false,
         }
     }
 
@@ -43,7 +45,7 @@ impl ListLog {
     }
 
     /// Puts an entry after all others.
-    fn put(&mut self, entry: Entry) -> Result<(), LogError> {
+    fn put(&self, entry: Entry) -> Result<(), LogError> {
         let Ok(mut all) = self.list.try_borrow_mut() else {
             return Err(LogError::Failed);
         };
@@ -57,6 +59,10 @@ impl ListLog {
 impl Log for ListLog {
     ghost contents = { λ _. None };
 
+    ghost held = { λ log. log.is_held };
+
+    ghost shown = { λ log. log.is_shown };
+
     fn hold(&mut self) -> Result<(), LogError> {
         if self.is_held {
             return Err(LogError::Failed);
@@ -66,21 +72,31 @@ impl Log for ListLog {
     }
 
     fn next(&mut self) -> Result<Option<Entry>, LogError> {
+        self.is_shown = false;
         if !self.is_held {
             return Err(LogError::Failed);
         }
-        match self.unread() {
-            Ok(found) => Ok(found),
-            Err(error) => Err(error),
+        match self.unread()? {
+            Some(entry) => {
+                self.is_shown = true;
+                Ok(Some(entry))
+            }
+            None => Ok(None),
         }
     }
 
     fn accept(&mut self) {
-        self.taken = self.taken.saturating_add(1);
+        if self.is_shown {
+            self.taken = self.taken.saturating_add(1);
+        }
+        self.is_shown = false;
     }
 
     fn append(&mut self, entry: &Entry) -> Result<(), LogError> {
-        let Ok(None) = self.next() else {
+        if !self.is_held {
+            return Err(LogError::Failed);
+        }
+        let Ok(None) = self.unread() else {
             return Err(LogError::Failed);
         };
         let Ok(copy) = entry.clone() else {
