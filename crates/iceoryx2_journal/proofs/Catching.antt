@@ -1,6 +1,6 @@
 -- What catching up comes to, where a log goes on elsewhere.
-use Rattle.std.proofs.Common.{◌≡◌, ℕ, false, List, [], ◌∷◌, ◌++◌, Option, None, Result, Ok, Err, refl, sym, ap, subst, ◌∙◌}
-use Rattle.iceoryx2_access.specs.Run.{Run, done}
+use Rattle.std.proofs.Common.{◌≡◌, ℕ, List, [], ◌∷◌, ◌++◌, Option, None, Result, Ok, Err, refl, sym, subst}
+use Rattle.iceoryx2_access.specs.Run.{Run}
 use Rattle.iceoryx2_access.proofs.Run.{one, both}
 use Rattle.iceoryx2_world.specs.World.{World}
 use Rattle.iceoryx2_log.specs.declared.entry.Entry.{Entry}

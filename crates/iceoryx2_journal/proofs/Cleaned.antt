@@ -1,6 +1,6 @@
 -- What is left of a node that has nothing, and of the factories of others.
-use Rattle.std.proofs.Common.{◌≡◌, ◌≢◌, inl, ℕ, ◌≤◌, Bool, true, false, cond, List, [], ◌∷◌, Option, Some, None, filter, length, refl, sym, ap, subst, ◌∙◌, arith, if◌then◌else◌}
-use Rattle.std.specs.Prelude.{◌&&◌, ◌==◌, Result, Ok, Err}
+use Rattle.std.proofs.Common.{◌≡◌, ◌≢◌, inl, ℕ, ◌≤◌, Bool, true, false, cond, List, [], ◌∷◌, Option, Some, filter, length, refl, sym, ap, subst, ◌∙◌, arith, if◌then◌else◌}
+use Rattle.std.specs.Prelude.{◌&&◌, Result, Ok, Err}
 use Rattle.std.specs.List.{find as first}
 use Rattle.std.specs.FinMap as map
 use Rattle.std.proofs.lemmas.Bool.{eqb-true}
@@ -9,14 +9,13 @@ use Rattle.iceoryx2_description.specs.declared.description.ServiceHash.{ServiceH
 use Rattle.iceoryx2_access.specs.Letter.{Letter, acting_node}
 use Rattle.iceoryx2_access.specs.Letter as letter
 use Rattle.iceoryx2_access.specs.Registered.{Registered}
-use Rattle.iceoryx2_access.specs.Run.{Run, done, next}
+use Rattle.iceoryx2_access.specs.Run.{done, next}
 use Rattle.iceoryx2_access.specs.declared.storage.Release.{Release as Released}
 use Rattle.iceoryx2_access.specs.declared.storage.ReleaseError.{ReleaseError}
 use Rattle.iceoryx2_access.specs.declared.storage.RemoveError.{RemoveError}
 use Rattle.iceoryx2_world.specs.declared.world.Participant.TheVariants.{Node}
 use Rattle.iceoryx2_world.specs.declared.world.Phase.{Phase}
 use Rattle.iceoryx2_world.specs.declared.world.Phase.TheVariants as at
-use Rattle.iceoryx2_world.specs.declared.world.Ticket.{Ticket}
 use Rattle.iceoryx2_world.specs.World.{World, belongs, begins, join_count, phase_of, ticket_count}
 use Rattle.iceoryx2_world.specs.Across.{Agrees}
 use Rattle.iceoryx2_world.specs.Interference.{everyone, IsFallibleUnder}
@@ -25,7 +24,7 @@ use Rattle.iceoryx2_world.proofs.agreement.Interference.{rely_same}
 use Rattle.iceoryx2_world.proofs.agreement.Stands.{run_stands}
 use Rattle.iceoryx2_table.specs.declared.holdings.Holding.{Holding}
 use Rattle.iceoryx2_table.specs.declared.holdings.Holding.TheVariants as holding
-use Rattle.iceoryx2_table.specs.Holdings.{is_unfinished, HasNoTicket, IsHolding}
+use Rattle.iceoryx2_table.specs.Holdings.{is_unfinished, HasNoTicket}
 use Rattle.iceoryx2_table.proofs.Held.{found_in}
 use Rattle.iceoryx2_log.specs.Log.{Contents}
 use Rattle.iceoryx2_journal.specs.Cleaning.{has_segment, GivesUp, HoldsNothing, IsInItsName, SparesOtherNodes}

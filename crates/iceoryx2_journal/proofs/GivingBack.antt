@@ -8,7 +8,7 @@ use Rattle.iceoryx2_access.specs.Letter as letter
 use Rattle.iceoryx2_access.specs.Run.{Run, done, next}
 use Rattle.iceoryx2_access.proofs.Run.{one, both}
 use Rattle.iceoryx2_world.specs.World.{World}
-use Rattle.iceoryx2_world.specs.Interference.{Rely, Others, nobody, node_acts}
+use Rattle.iceoryx2_world.specs.Interference.{Rely, nobody, node_acts}
 use Rattle.iceoryx2_world.proofs.agreement.Interference.{others_keep_own, rely_same, rely_both}
 use Rattle.iceoryx2_table.specs.declared.holdings.Holding.{Holding}
 use Rattle.iceoryx2_table.specs.declared.holdings.Holding.TheVariants as holding
@@ -22,8 +22,8 @@ use Rattle.iceoryx2_journal.specs.declared.cleaning.Step.{Step}
 use Rattle.iceoryx2_journal.specs.declared.cleaning.Step.TheVariants as step
 use Rattle.iceoryx2_journal.specs.Taking.{is_own}
 use Rattle.iceoryx2_journal.specs.Logged.{IsLoggedPart, unwritten, written, declined}
-use Rattle.iceoryx2_journal.specs.Journal.{JournalState, TakesAll, Fails}
-use Rattle.iceoryx2_journal.specs.Cleaning.{has_segment, GivesUp, given_back, with_one, given_by, nothing_given, step_with, CleansBy, CleansSome, CleansNext, CleansAll, Cleans, FindsNothing, Adopts}
+use Rattle.iceoryx2_journal.specs.Journal.{JournalState, TakesAll}
+use Rattle.iceoryx2_journal.specs.Cleaning.{has_segment, GivesUp, given_back, with_one, given_by, nothing_given, step_with, CleansBy, CleansSome, CleansNext, CleansAll, Cleans, Adopts}
 use Rattle.iceoryx2_journal.proofs.Runs.{begun, not_begun}
 
 service_caller : (i : ℕ) (b : Bool) (l x y : Letter) → acting_node x ≡ i → acting_node y ≡ i → l ≡ (if b then x else y) → acting_node l ≡ i

@@ -60,3 +60,13 @@ module _ {L : Type 0} (contents : L → Option Contents) where
     acts : (mid : JournalState L) → is_mine old.nodes l ≡ true → TakesAll old mid
         → IsLoggedPart contents mid.world l new.world mid.log new.log → new.nodes ≡ mid.nodes
         → new.is_over ≡ mid.is_over → IsJournalAccess old l new
+
+module _ {L : Type 0} (held : L → Bool) where
+  -- The log is held after exactly if it was held before.
+  abbrev pub KeepsHold : JournalState L → JournalState L → Type 0
+  KeepsHold old new = held new.log ≡ held old.log
+
+module _ {L : Type 0} (contents : L → Option Contents) (held : L → Bool) where
+  -- An access, which leaves the log held exactly if it was held before.
+  abbrev pub IsAccessOver : JournalState L → Letter → JournalState L → Type 0
+  IsAccessOver old l new = IsJournalAccess contents old l new × KeepsHold held old new

@@ -1,5 +1,5 @@
 -- What a process takes over of a log that others share, and why an entry isn't taken over.
-use Rattle.std.specs.Prelude.{◌≡◌, ℕ, Bool, true, false, nat_eq, List, [], ◌∷◌, ◌++◌}
+use Rattle.std.specs.Prelude.{◌≡◌, ◌⊎◌, ℕ, Bool, true, false, nat_eq, List, [], ◌∷◌, ◌++◌}
 use Rattle.std.specs.Prelude.{Option, Some, None, Result, Ok, Err}
 use Rattle.std.specs.List.{list_any}
 use Rattle.iceoryx2_access.specs.Run.{Run, Each}
@@ -72,6 +72,18 @@ abbrev pub TakesNext : List ℕ → Next → World → World → Option Contents
 TakesNext nodes next.Taken w v old new = TakesOne nodes w v old new
 TakesNext nodes next.Nothing w v old new = (v ≡ w) × (new ≡ old) × IsAllTaken new
 TakesNext nodes (next.Stopped s) w v old new = Stops nodes new w s v × (new ≡ old)
+
+-- There was no memory for the next entry, which is another's.
+abbrev pub IsStarved : List ℕ → Option Contents → World → World → Type 0
+IsStarved nodes log w v =
+    (e : Entry) × IsNext e log × (is_own nodes e.node ≡ false) × Prepares e.node e.hash e.deed w v
+
+-- A stop after which it may go on later comes only where the log showed no entry, or there was no memory for another's.
+-- So one in an own node's name, and one that isn't what the table answers, end it.
+abbrev pub IsLaterFor : List ℕ → (shown : Bool) → Next → World → World → Option Contents → Type 0
+IsLaterFor nodes shown next.Taken w v log = Unit {0}
+IsLaterFor nodes shown next.Nothing w v log = Unit {0}
+IsLaterFor nodes shown (next.Stopped s) w v log = ends s ≡ false → (shown ≡ false) ⊎ IsStarved nodes log w v
 
 -- Some were taken over before one was not.
 pub record TakesSome (nodes : List ℕ) (s : Stop) (w v : World) (old new : Option Contents) : Type 0 where

@@ -1,6 +1,6 @@
 //! What is given back for a node that doesn't do it itself.
 
-ghost use Rattle.std.specs.Prelude.{◌≡◌, Some};
+ghost use Rattle.std.specs.Prelude.{◌≡◌, false, Some};
 ghost use Rattle.iceoryx2_access.specs.Letter.{Letter};
 ghost use Rattle.iceoryx2_journal.specs.Cleaning.{GivesUp, given_back, if_granted, nothing_given, step_with, with_one};
 ghost use Rattle.iceoryx2_journal.specs.Cleaning.{has_segment as has_segment_spec};
@@ -163,8 +163,9 @@ pub(crate) fn give_back<L: Log>(
     node: u64,
     held: Holding,
 ) -> Option<GivenBack>
-    ensures { (l : Letter) × GivesUp node held l × (given_back l ≡ result)
+    ensures gives { (l : Letter) × GivesUp node held l × (given_back l ≡ result)
         × IsLoggedPart L.contents world.old l world.new pen.old.log pen.new.log }
+    ensures free { L.held pen.new.log ≡ false }
 {
     match held {
         Holding::Ticket {

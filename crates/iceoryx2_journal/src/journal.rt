@@ -5,7 +5,7 @@ ghost use Rattle.iceoryx2_world.specs.World.{empty_world};
 ghost use Rattle.iceoryx2_world.specs.Interference.{Rely};
 ghost use Rattle.iceoryx2_world.specs.Listing.{Lists};
 ghost use Rattle.iceoryx2_journal.specs.Taking.{is_own};
-ghost use Rattle.iceoryx2_journal.specs.Journal.{Begins};
+ghost use Rattle.iceoryx2_journal.specs.Journal.{Begins, KeepsHold};
 
 mod accesses;
 mod cleaning;
@@ -132,7 +132,9 @@ impl<L: Log> Journal<L> {
     // Holds the log and takes over what others appended, for an access that is in an own node's name. False where there
     // is no own part, and then the log isn't held.
     fn begin(&mut self, mine: bool) -> bool
-        ensures { Begins L.contents mine result self.old self.new }
+        ensures begins { Begins L.contents mine result self.old self.new }
+        ensures was_free { result ≡ true → L.held self.old.log ≡ false }
+        ensures hold { result ≡ false → KeepsHold L.held self.old self.new }
     {
         if !mine {
             return false;
@@ -167,6 +169,7 @@ impl<L: Log> Journal<L> {
     /// the journal is over: then it stays as far as it was, or as it came.
     pub fn catch_up(&mut self) -> bool
         ensures takes { Begins L.contents true result self.old self.new }
+        ensures hold { KeepsHold L.held self.old self.new }
         ensures kept { Rely (is_own self.old.nodes) self.old.world self.new.world }
         ensures nodes { self.new.nodes ≡ self.old.nodes }
     {
@@ -181,6 +184,7 @@ impl<L: Log> Journal<L> {
     /// it was.
     pub fn refresh(&mut self)
         ensures takes { (has_begun : Bool) × Begins L.contents true has_begun self.old self.new }
+        ensures hold { KeepsHold L.held self.old self.new }
         ensures kept { Rely (is_own self.old.nodes) self.old.world self.new.world }
         ensures nodes { self.new.nodes ≡ self.old.nodes }
     {
@@ -189,7 +193,9 @@ impl<L: Log> Journal<L> {
 
     // Begins an access of this node.
     fn begin_as(&mut self, node: u64) -> bool
-        ensures { Begins L.contents (is_own self.old.nodes node) result self.old self.new }
+        ensures begins { Begins L.contents (is_own self.old.nodes node) result self.old self.new }
+        ensures was_free { result ≡ true → L.held self.old.log ≡ false }
+        ensures hold { result ≡ false → KeepsHold L.held self.old self.new }
     {
         let mine = self.has_node(node);
         self.begin(mine)
@@ -199,6 +205,7 @@ impl<L: Log> Journal<L> {
     fn has_paused(&mut self, hash: &ServiceHash, number: u64) -> bool
         ensures log { L.contents self.new.log ≡ L.contents self.old.log }
         ensures same { self.new ≡ record self.old { log = self.new.log } }
+        ensures free { result ≡ true → L.held self.new.log ≡ false }
     {
         match self.world.exists(hash) {
             Existence::BeingSetUp => self.pen.log.pause(number),
@@ -208,7 +215,9 @@ impl<L: Log> Journal<L> {
 
     // Begins an access that looks for a service. While a node has its lock, others have time to append.
     fn begin_look(&mut self, mine: bool, hash: &ServiceHash) -> bool
-        ensures { Begins L.contents mine result self.old self.new }
+        ensures begins { Begins L.contents mine result self.old self.new }
+        ensures was_free { result ≡ true → L.held self.old.log ≡ false }
+        ensures hold { result ≡ false → KeepsHold L.held self.old self.new }
     {
         if !self.begin(mine) {
             return false;
@@ -226,7 +235,9 @@ impl<L: Log> Journal<L> {
 
     // Begins a look of this node.
     fn begin_look_as(&mut self, node: u64, hash: &ServiceHash) -> bool
-        ensures { Begins L.contents (is_own self.old.nodes node) result self.old self.new }
+        ensures begins { Begins L.contents (is_own self.old.nodes node) result self.old self.new }
+        ensures was_free { result ≡ true → L.held self.old.log ≡ false }
+        ensures hold { result ≡ false → KeepsHold L.held self.old self.new }
     {
         let mine = self.has_node(node);
         self.begin_look(mine, hash)

@@ -1,11 +1,14 @@
 //! A storage that processes share: the world that each makes of one log.
 //!
 //! `follow` makes another's entry its node's access, or finds that the world grants it otherwise (`Follows`).
-//! `take_all` takes over what others appended, in order, and stops at an entry in an own node's name (`TakesOver`).
+//! `take_all` takes over what others appended, in order, and stops at an entry in an own node's name (`TakesOver`). Such
+//! an entry, and one that isn't what the table answers, end the journal: `take_next` goes on later only where the log
+//! showed no entry, or there was no memory for another's (`IsLaterFor`).
 //! Where the log goes on in another file the world comes to the snapshot's, but for who has only read
 //! (`IsSameButRead`, of the private `advance`); the way there (`course`) has no contract, and is compared. Each
 //! access of `Journal` is its fault with more entries taken over, or the own part after all entries, with its entry
-//! appended exactly where it is written down, or refused (`IsJournalAccess`). `refresh` and `adopt` keep what own
+//! appended exactly where it is written down, or refused (`IsJournalAccess`), and leaves the log held exactly if it was
+//! held before (`KeepsHold`), as `catch_up`, `refresh`, `adopt` and `clean` do. `refresh` and `adopt` keep what own
 //! nodes rely on (`Adopts`). `clean` gives back what another node has (`Cleans`): at Ok it has nothing, else what
 //! was given back stays so.
 //!

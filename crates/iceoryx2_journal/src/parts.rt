@@ -1,6 +1,7 @@
 //! The own parts that others have to know: appended to a log before they change anything. The log is held before each,
 //! and isn't after it. Where it refuses the entry the answer is the access's general fault, and nothing changes.
 
+ghost use Rattle.std.specs.Prelude.{◌≡◌, false};
 ghost use Rattle.iceoryx2_access.specs.Letter as letter;
 ghost use Rattle.iceoryx2_journal.specs.Logged.{IsLoggedPart};
 
@@ -23,8 +24,9 @@ pub fn make_tag<L: Log>(
     node: u64,
     hash: &ServiceHash,
 ) -> Result<Tag, TagError>
-    ensures { IsLoggedPart L.contents world.old (letter.MakeTag node hash.now result) world.new
+    ensures logged { IsLoggedPart L.contents world.old (letter.MakeTag node hash.now result) world.new
         pen.old.log pen.new.log }
+    ensures free { L.held pen.new.log ≡ false }
 {
     pen.entry = Some(Entry {
         node,
@@ -43,8 +45,9 @@ pub fn remove_tag<L: Log>(
     node: u64,
     hash: &ServiceHash,
 ) -> Result<(), RemoveError>
-    ensures { IsLoggedPart L.contents world.old (letter.RemoveTag node hash.now result) world.new
+    ensures logged { IsLoggedPart L.contents world.old (letter.RemoveTag node hash.now result) world.new
         pen.old.log pen.new.log }
+    ensures free { L.held pen.new.log ≡ false }
 {
     pen.entry = Some(Entry {
         node,
@@ -63,8 +66,9 @@ pub fn lock<L: Log>(
     node: u64,
     hash: &ServiceHash,
 ) -> Result<u64, LockError>
-    ensures { IsLoggedPart L.contents world.old (letter.Lock node hash.now result) world.new
+    ensures logged { IsLoggedPart L.contents world.old (letter.Lock node hash.now result) world.new
         pen.old.log pen.new.log }
+    ensures free { L.held pen.new.log ≡ false }
 {
     let number = world.counter();
     pen.entry = Some(Entry {
@@ -86,8 +90,9 @@ pub fn make_segment<L: Log>(
     number: u64,
     max_nodes: u64,
 ) -> Result<(), MakeSegmentError>
-    ensures { IsLoggedPart L.contents world.old (letter.MakeSegment node hash.now number max_nodes result) world.new
+    ensures logged { IsLoggedPart L.contents world.old (letter.MakeSegment node hash.now number max_nodes result) world.new
         pen.old.log pen.new.log }
+    ensures free { L.held pen.new.log ≡ false }
 {
     pen.entry = Some(Entry {
         node,
@@ -106,8 +111,9 @@ pub fn remove_segment<L: Log>(
     node: u64,
     hash: &ServiceHash,
 ) -> Result<(), RemoveError>
-    ensures { IsLoggedPart L.contents world.old (letter.RemoveSegment node hash.now result) world.new
+    ensures logged { IsLoggedPart L.contents world.old (letter.RemoveSegment node hash.now result) world.new
         pen.old.log pen.new.log }
+    ensures free { L.held pen.new.log ≡ false }
 {
     pen.entry = Some(Entry {
         node,
@@ -126,8 +132,9 @@ pub fn remove_description<L: Log>(
     node: u64,
     hash: &ServiceHash,
 ) -> Result<(), RemoveError>
-    ensures { IsLoggedPart L.contents world.old (letter.RemoveDescription node hash.now result) world.new
+    ensures logged { IsLoggedPart L.contents world.old (letter.RemoveDescription node hash.now result) world.new
         pen.old.log pen.new.log }
+    ensures free { L.held pen.new.log ≡ false }
 {
     pen.entry = Some(Entry {
         node,
@@ -150,8 +157,9 @@ pub fn publish<L: Log>(
     number: u64,
     description: &StaticConfig,
 ) -> Result<u64, PublishError>
-    ensures { IsLoggedPart L.contents world.old (letter.Publish node hash.now number description.now result) world.new
+    ensures logged { IsLoggedPart L.contents world.old (letter.Publish node hash.now number description.now result) world.new
         pen.old.log pen.new.log }
+    ensures free { L.held pen.new.log ≡ false }
 {
     let Ok(form) = bytes::encode(alloc, description) else {
         pen.log.let_go();
@@ -178,8 +186,9 @@ pub fn open_segment<L: Log>(
     hash: &ServiceHash,
     number: u64,
 ) -> Result<u64, OpenSegmentError>
-    ensures { IsLoggedPart L.contents world.old (letter.OpenSegment node hash.now number result) world.new
+    ensures logged { IsLoggedPart L.contents world.old (letter.OpenSegment node hash.now number result) world.new
         pen.old.log pen.new.log }
+    ensures free { L.held pen.new.log ≡ false }
 {
     let ticket = world.counter();
     pen.entry = Some(Entry {
@@ -201,8 +210,9 @@ pub fn release<L: Log>(
     hash: &ServiceHash,
     number: u64,
 ) -> Result<Release, ReleaseError>
-    ensures { IsLoggedPart L.contents world.old (letter.Release ticket node hash.now number result) world.new
+    ensures logged { IsLoggedPart L.contents world.old (letter.Release ticket node hash.now number result) world.new
         pen.old.log pen.new.log }
+    ensures free { L.held pen.new.log ≡ false }
 {
     pen.entry = Some(Entry {
         node,

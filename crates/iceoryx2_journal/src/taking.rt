@@ -1,7 +1,7 @@
 //! Taking over what others appended.
 
 ghost use Rattle.std.specs.Prelude.{◌≡◌, false};
-ghost use Rattle.iceoryx2_journal.specs.Taking.{is_own, ends, TakesNext, TakesAllOf};
+ghost use Rattle.iceoryx2_journal.specs.Taking.{is_own, ends, IsLaterFor, TakesNext, TakesAllOf};
 
 use crate::follow::{FollowError, follow};
 use crate::snapshot::catch_up;
@@ -66,7 +66,8 @@ pub fn has(nodes: &[u64], node: u64) -> bool
 /// Takes the next entry over, where there is one. Memory for it is had before it is read. The log stays as it was where
 /// it isn't taken over.
 pub fn take_next<L: Log>(alloc: Global, world: &mut StoredWorld, log: &mut L, nodes: &[u64]) -> Next
-    ensures { TakesNext nodes.now result world.old world.new (L.contents log.old) (L.contents log.new) }
+    ensures takes { TakesNext nodes.now result world.old world.new (L.contents log.old) (L.contents log.new) }
+    ensures later { IsLaterFor nodes.now (L.shown log.new) result world.old world.new (L.contents log.new) }
 {
     let found = match log.next() {
         Ok(found) => found,

@@ -10,9 +10,9 @@ use iceoryx2_description::description::{ServiceHash, StaticConfig};
 use iceoryx2_log::log::Log;
 
 impl<L: Log> Storage for Journal<L> {
-    ghost use Rattle.iceoryx2_journal.specs.Journal.{IsJournalAccess};
+    ghost use Rattle.iceoryx2_journal.specs.Journal.{IsAccessOver};
 
-    ghost step = { λ old letter new. IsJournalAccess L.contents old letter new };
+    ghost step = { λ old letter new. IsAccessOver L.contents L.held old letter new };
 
     fn exists(&mut self, hash: &ServiceHash) -> Existence {
         if !self.begin_look(true, hash) {

@@ -5,6 +5,7 @@ ghost use Rattle.iceoryx2_world.specs.Interference.{Rely};
 ghost use Rattle.iceoryx2_table.specs.Holdings.{IsHolding};
 ghost use Rattle.iceoryx2_journal.specs.Cleaning.{Adopts, Cleans, CleansNext, CleansAll};
 ghost use Rattle.iceoryx2_journal.specs.Replay.{Lives};
+ghost use Rattle.iceoryx2_journal.specs.Journal.{KeepsHold};
 ghost use Rattle.iceoryx2_journal.specs.Taking.{is_own};
 
 use super::Journal;
@@ -16,6 +17,7 @@ impl<L: Log> Journal<L> {
     /// process has the node.
     pub fn adopt(&mut self, node: u64) -> Result<(), AdoptError>
         ensures adopts { Adopts L.contents node result self.old self.new }
+        ensures hold { KeepsHold L.held self.old self.new }
         ensures lives { Lives L.contents self.old self.new }
         ensures kept { Rely (is_own self.old.nodes) self.old.world self.new.world }
         ensures ok { OnOk result (self.new.nodes ≡ self.old.nodes ++ node ∷ []) }
@@ -26,7 +28,8 @@ impl<L: Log> Journal<L> {
 
     // Takes over what others appended, and puts the node with the own ones.
     fn adopt_next(&mut self, node: u64) -> Result<(), AdoptError>
-        ensures { Adopts L.contents node result self.old self.new }
+        ensures adopts { Adopts L.contents node result self.old self.new }
+        ensures hold { KeepsHold L.held self.old self.new }
     {
         if !self.begin(true) {
             return Err(AdoptError::Refused);
@@ -46,6 +49,7 @@ impl<L: Log> Journal<L> {
     /// `IsOwn` where it is an own node, and `Refused` where the log refused; it can be done again then.
     pub fn clean(&mut self, node: u64) -> Result<Cleaned, CleanError>
         ensures cleans { Cleans L.contents node result self.old self.new }
+        ensures hold { KeepsHold L.held self.old self.new }
         ensures lives { Lives L.contents self.old self.new }
         ensures kept { Rely (is_own self.old.nodes) self.old.world self.new.world }
         ensures nodes { self.new.nodes ≡ self.old.nodes }
@@ -59,7 +63,8 @@ impl<L: Log> Journal<L> {
 
     // Does so for a node that isn't an own one.
     fn clean_all(&mut self, node: u64) -> Result<Cleaned, CleanError>
-        ensures { CleansAll L.contents node result self.old self.new }
+        ensures all { CleansAll L.contents node result self.old self.new }
+        ensures hold { KeepsHold L.held self.old self.new }
     {
         let mut cleaned = Cleaned::nothing();
         for _ in 0..u64::MAX {
@@ -74,7 +79,8 @@ impl<L: Log> Journal<L> {
 
     // Takes over what others appended, and gives one thing back that the node has.
     fn clean_next(&mut self, node: u64) -> Step
-        ensures { CleansNext L.contents node result self.old self.new }
+        ensures next { CleansNext L.contents node result self.old self.new }
+        ensures hold { KeepsHold L.held self.old self.new }
     {
         if !self.begin(true) {
             return Step::Refused;

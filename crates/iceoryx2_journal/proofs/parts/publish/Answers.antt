@@ -7,8 +7,8 @@ use Rattle.iceoryx2_journal.proofs.Entries.{publish_entry}
 use Rattle.iceoryx2_journal.proofs.Logged.{wrote}
 use Rattle.iceoryx2_journal.proofs.parts.publish.Goals as goal
 
-pub returns : goal.returns
-returns g c =
+pub returns-clause-logged : goal.returns-clause-logged
+returns-clause-logged g c =
     let i = c.args.node in
     let h = c.args.hash.now in
     let n = c.args.number in
@@ -19,7 +19,7 @@ returns g c =
       subst (IsForm d) (sym c.new.ensures) c.in-Ok.ensures,
       ap (letter.Publish i h n d) (publish_entry i h n d c.publish-answer.result p e),
     ))
-    c.publish-answer.ensures c.let_go-2.ensures
+    c.publish-answer.ensures c.let_go-2.ensures.same
 
-pub returns-in_default : goal.returns-in_default
-returns-in_default g c = declined refl refl c.let_go.ensures
+pub returns-in_default-clause-logged : goal.returns-in_default-clause-logged
+returns-in_default-clause-logged g c = declined refl refl c.let_go.ensures.same

@@ -5,10 +5,10 @@ use Rattle.iceoryx2_journal.proofs.Entries.{unit_granted}
 use Rattle.iceoryx2_journal.proofs.Logged.{wrote}
 use Rattle.iceoryx2_journal.proofs.parts.remove_segment.Goals as goal
 
-pub returns : goal.returns
-returns g c =
+pub returns-clause-logged : goal.returns-clause-logged
+returns-clause-logged g c =
     let i = c.args.node in
     let h = c.args.hash.now in
     wrote (record { node = i; hash = h; deed = deed.RemoveSegment }) refl refl
     (λ p e. ap (letter.RemoveSegment i h) (unit_granted c.remove_segment-answer.result e))
-    c.remove_segment-answer.ensures c.let_go.ensures
+    c.remove_segment-answer.ensures c.let_go.ensures.same

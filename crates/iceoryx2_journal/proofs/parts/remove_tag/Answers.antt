@@ -5,10 +5,10 @@ use Rattle.iceoryx2_journal.proofs.Entries.{removal_granted}
 use Rattle.iceoryx2_journal.proofs.Logged.{wrote}
 use Rattle.iceoryx2_journal.proofs.parts.remove_tag.Goals as goal
 
-pub returns : goal.returns
-returns g c =
+pub returns-clause-logged : goal.returns-clause-logged
+returns-clause-logged g c =
     let i = c.args.node in
     let h = c.args.hash.now in
     wrote (record { node = i; hash = h; deed = deed.RemoveTag }) refl refl
     (λ p e. ap (letter.RemoveTag i h) (removal_granted c.remove_tag-answer.result _ e))
-    c.remove_tag-answer.ensures c.let_go.ensures
+    c.remove_tag-answer.ensures c.let_go.ensures.same

@@ -1,5 +1,5 @@
-use Rattle.std.proofs.Common.{[], refl, sym, subst, ◌∙◌}
-use Rattle.iceoryx2_access.specs.Run.{Run, done}
+use Rattle.std.proofs.Common.{[], refl, ◌∙◌}
+use Rattle.iceoryx2_access.specs.Run.{done}
 use Rattle.iceoryx2_journal.proofs.Catching.{restored_more}
 use Rattle.iceoryx2_journal.proofs.snapshot.restore_all.Goals as goal
 

@@ -4,24 +4,24 @@ use Rattle.iceoryx2_journal.proofs.Begins.{held_not, fell_short, listed_some, li
 use Rattle.iceoryx2_journal.proofs.Takes.{takes_both, same_over}
 use Rattle.iceoryx2_journal.proofs.journal.Journal.begin.Goals as goal
 
-pub returns-then-not-mine : goal.returns-then-not-mine
-returns-then-not-mine g c = barred_from refl (not_mine c.args.mine c.args.self.now.is_over c.if-not-mine.true) refl
+pub returns-then-not-mine-clause-begins : goal.returns-then-not-mine-clause-begins
+returns-then-not-mine-clause-begins g c = barred_from refl (not_mine c.args.mine c.args.self.now.is_over c.if-not-mine.true) refl
 
-pub returns-then-self : goal.returns-then-self
-returns-then-self g c = barred_from c.self.view_is (over_then c.args.mine c.self.inside.is_over c.if-self.true) (sym c.self.view_is)
+pub returns-then-self-clause-begins : goal.returns-then-self-clause-begins
+returns-then-self-clause-begins g c = barred_from c.self.view_is (over_then c.args.mine c.self.inside.is_over c.if-self.true) (sym c.self.view_is)
 
-pub returns-in_default : goal.returns-in_default
-returns-in_default g c =
+pub returns-in_default-clause-begins : goal.returns-in_default-clause-begins
+returns-in_default-clause-begins g c =
     let may = may_begin c.args.mine c.self.inside.is_over c.if-not-mine.false c.if-self.false in
     stopped_from c.self.view_is may (held_not c.in_default.ensures.err) refl c.if-self.false
 
-pub returns-in-Ok-take_over : goal.returns-in-Ok-take_over
-returns-in-Ok-take_over g c =
+pub returns-in-Ok-take_over-clause-begins : goal.returns-in-Ok-take_over-clause-begins
+returns-in-Ok-take_over-clause-begins g c =
     let t = c.in-Ok-take_over.ensures in
     let over = listed_over c.deref.ensures.value (takes_both c.in-Ok.ensures.ok t.0) in
     all_from c.self.view_is c.if-not-mine.false c.if-self.false (same_over c.compact.ensures over) (subst IsAllTaken (sym c.compact.ensures) t.1) refl refl
 
-pub returns-in-Err : goal.returns-in-Err
-returns-in-Err g c =
+pub returns-in-Err-clause-begins : goal.returns-in-Err-clause-begins
+returns-in-Err-clause-begins g c =
     let may = may_begin c.args.mine c.self.inside.is_over c.if-not-mine.false c.if-self.false in
-    stopped_from c.self.view_is may (listed_some c.deref.ensures.value (fell_short c.in-Ok.ensures.ok c.in-Err.ensures c.let_go.ensures)) refl c.ends-self-inside.ensures
+    stopped_from c.self.view_is may (listed_some c.deref.ensures.value (fell_short c.in-Ok.ensures.ok c.in-Err.ensures c.let_go.ensures.same)) refl c.ends-self-inside.ensures

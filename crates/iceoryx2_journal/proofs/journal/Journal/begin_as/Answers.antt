@@ -2,6 +2,6 @@ use Rattle.std.proofs.Common.{subst}
 use Rattle.iceoryx2_journal.specs.Journal.{Begins}
 use Rattle.iceoryx2_journal.proofs.journal.Journal.begin_as.Goals as goal
 
-pub returns : goal.returns
-returns g c =
-    subst (λ m. Begins g.L.Log.contents m c.begin.result c.args.self.now c.begin.new.self) c.has_node-mine.ensures c.begin.ensures
+pub returns-clause-begins : goal.returns-clause-begins
+returns-clause-begins g c =
+    subst (λ m. Begins g.L.Log.contents m c.begin.result c.args.self.now c.begin.new.self) c.has_node-mine.ensures c.begin.ensures.begins
