@@ -53,15 +53,15 @@ pub fn promise_of_builders()
 pub fn promise_over_logs<L: Log>()
     ensures events { (nodes : List ℕ) (hash_of : ℕ → List ℕ → ServiceHash) (b : EventBuilderState) (way : Way)
         (defined : List Pair) (required : Requirements) (now : Result Span ClockFault)
-        → PromiseOverLog L.contents nodes (event_call hash_of b way defined required now) }
+        → PromiseOverLog L.contents L.held nodes (event_call hash_of b way defined required now) }
     ensures publish_subscribe { (nodes : List ℕ) (hash_of : ℕ → List ℕ → ServiceHash)
         (b : PublishSubscribeBuilderState) (message : Message) (way : Way)
         (defined : List Pair) (required : Requirements)
-        → PromiseOverLog L.contents nodes (publish_subscribe_call hash_of b message way defined required) }
+        → PromiseOverLog L.contents L.held nodes (publish_subscribe_call hash_of b message way defined required) }
     ensures request_response { (nodes : List ℕ) (hash_of : ℕ → List ℕ → ServiceHash)
         (b : RequestResponseBuilderState) (messages : Messages) (way : Way)
         (defined : List Pair) (required : Requirements)
-        → PromiseOverLog L.contents nodes (request_response_call hash_of b messages way defined required) }
+        → PromiseOverLog L.contents L.held nodes (request_response_call hash_of b messages way defined required) }
 {}
 
 /// What sessions hold together whose processes share a log, however many there are.

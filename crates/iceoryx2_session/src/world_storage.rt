@@ -95,9 +95,9 @@ impl<L: Log> WorldStorage for Journal<L> {
 
     ghost own = { λ journal. is_own journal.nodes };
 
-    ghost accesses = { λ old letter new access. access_under access };
+    ghost accesses = { λ old letter new access. access_under access.0 };
 
-    ghost keeps_own = { λ old letter new access. ap is_own (access_nodes access) };
+    ghost keeps_own = { λ old letter new access. ap is_own (access_nodes access.0) };
 
     fn refresh(&mut self) {
         Journal::refresh(self)

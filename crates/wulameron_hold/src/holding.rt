@@ -2,7 +2,7 @@
 
 ghost use Rattle.std.specs.Prelude.{◌≡◌, ◌++◌, IfOk, OnOk, codes, string_bytes};
 ghost use Rattle.std.specs.List.{flat_map};
-ghost use Rattle.iceoryx2_journal.specs.Journal.{IsJournalAccess};
+ghost use Rattle.iceoryx2_journal.specs.Journal.{IsAccessOver};
 ghost use Rattle.iceoryx2_session.specs.SessionStates.{own_state};
 ghost use Rattle.wulameron_hold.specs.Holding.{Holds, HoldsMade, call_line as call_line_of, end_of_hold};
 ghost use Rattle.wulameron_hold.specs.Holding.{IsFactoryOf, hold_status};
@@ -123,7 +123,7 @@ fn hold_made<L: Log, R: Read, W: Write>(
     input: &mut R,
     output: &mut W,
 ) -> Result<(), HoldError>
-    ensures { HoldsMade (IsJournalAccess L.contents) (λ j. j.world) states.now slot number
+    ensures { HoldsMade (IsAccessOver L.contents L.held) (λ j. j.world) states.now slot number
         (own_state session.old) (own_state session.new) result (W.contents output.old) (W.contents output.new) }
 {
     let world = session.storage().world();
@@ -157,7 +157,7 @@ pub fn hold_call<L: Log, R: Read, W: Write>(
     input: &mut R,
     output: &mut W,
 ) -> Result<(), HoldError>
-    ensures { Holds (IsJournalAccess L.contents) (λ j. j.world) states.now call
+    ensures { Holds (IsAccessOver L.contents L.held) (λ j. j.world) states.now call
         (own_state session.old) (own_state session.new) result (W.contents output.old) (W.contents output.new) }
 {
     let reply = session.carry_out(Command::Call(call));

@@ -6,7 +6,7 @@ use Rattle.iceoryx2_world.specs.World.{World}
 use Rattle.iceoryx2_world.specs.Across.{Agrees}
 use Rattle.iceoryx2_world.specs.Interference.{Rely}
 use Rattle.iceoryx2_file_log.specs.declared.error.FileFault.{FileFault}
-use Rattle.iceoryx2_journal.specs.Journal.{JournalState, IsJournalAccess}
+use Rattle.iceoryx2_journal.specs.Journal.{JournalState, IsAccessOver}
 use Rattle.iceoryx2_journal.specs.Replay.{Lives}
 use Rattle.iceoryx2_journal.specs.Taking.{is_own}
 use Rattle.iceoryx2_log.specs.Log.{Contents}
@@ -110,22 +110,23 @@ module _ {S : Type 0} (step : S → Letter → S → Type 0) (world : S → Worl
       ⊎ (is_not_started ended ≡ true) × (new ≡ old)
 
 -- The same over a journal of a log that has this node alone, after what the node had was given back.
-pub record StartsLogExplained {L : Type 0} (contents : L → Option Contents) (refused : L → Option FileFault) (log : L)
-    (counter node : ℕ) (w : WrongLines) (ended : Result Ending Halt) (input : List ℕ)
-    (old new : Option (List ℕ)) : Type 0 where
+pub record StartsLogExplained {L : Type 0} (contents : L → Option Contents) (held : L → Bool)
+    (refused : L → Option FileFault) (log : L) (counter node : ℕ) (w : WrongLines) (ended : Result Ending Halt)
+    (input : List ℕ) (old new : Option (List ℕ)) : Type 0 where
   pub journal : JournalState L
   pub lives : Lives contents (first_journal log counter) journal
   pub nodes : journal.nodes ≡ node ∷ []
   pub unread : List ℕ
   pub serves : ServesLines
-      (ExplainsLinesFor (IsJournalAccess contents) (λ j. j.world) (λ j. is_own j.nodes)
+      (ExplainsLinesFor (IsAccessOver contents held) (λ j. j.world) (λ j. is_own j.nodes)
       (λ j. trouble_of j.is_over (refused j.log)) node w)
       (fresh_session (fresh_trace journal)) (seen_as ended) input unread old new
   pub may_end : IfOk ended (MayEnd w)
 
 -- It does so; or it ends by the log or out of memory, and nothing is written.
-abbrev pub ServesLogExplained : {L : Type 0} → (contents : L → Option Contents) → (refused : L → Option FileFault) → L
-    → (counter node : ℕ) → WrongLines → Result Ending Halt → (input : List ℕ) → (old new : Option (List ℕ)) → Type 0
-ServesLogExplained contents refused log counter node w ended input old new =
-    StartsLogExplained contents refused log counter node w ended input old new
+abbrev pub ServesLogExplained : {L : Type 0} → (contents : L → Option Contents) → (held : L → Bool)
+    → (refused : L → Option FileFault) → L → (counter node : ℕ) → WrongLines → Result Ending Halt → (input : List ℕ)
+    → (old new : Option (List ℕ)) → Type 0
+ServesLogExplained contents held refused log counter node w ended input old new =
+    StartsLogExplained contents held refused log counter node w ended input old new
     ⊎ (is_not_started ended ≡ true) × (new ≡ old)

@@ -4,7 +4,7 @@ use Rattle.iceoryx2_access.specs.Letter.{Letter}
 use Rattle.iceoryx2_world.specs.World.{World, empty_world}
 use Rattle.iceoryx2_world.specs.Across.{Agrees}
 use Rattle.iceoryx2_file_log.specs.declared.error.FileFault.{FileFault}
-use Rattle.iceoryx2_journal.specs.Journal.{JournalState, IsJournalAccess}
+use Rattle.iceoryx2_journal.specs.Journal.{JournalState, IsAccessOver}
 use Rattle.iceoryx2_journal.specs.Replay.{Lives}
 use Rattle.iceoryx2_journal.specs.Taking.{is_own}
 use Rattle.iceoryx2_log.specs.Log.{Contents}
@@ -45,8 +45,8 @@ abbrev pub first_journal : {L : Type 0} → L → ℕ → JournalState L
 first_journal log counter = record { world = empty_world counter; log = log; nodes = []; is_over = false }
 
 -- The same over a journal that has this node alone, after what the node had was given back.
-pub record StartsLog {L : Type 0} (contents : L → Option Contents) (refused : L → Option FileFault) (log : L)
-    (counter node : ℕ) (w : WrongLines) (ended : Result Ending Halt) (input : List ℕ)
+pub record StartsLog {L : Type 0} (contents : L → Option Contents) (held : L → Bool) (refused : L → Option FileFault)
+    (log : L) (counter node : ℕ) (w : WrongLines) (ended : Result Ending Halt) (input : List ℕ)
     (old new : Option (List ℕ)) : Type 0 where
   pub journal : JournalState L
   pub lives : Lives contents (first_journal log counter) journal
@@ -55,14 +55,15 @@ pub record StartsLog {L : Type 0} (contents : L → Option Contents) (refused : 
   pub cleaned : Refreshes (λ j. j.world) (λ j. is_own j.nodes) (fresh_session journal) first
   pub unread : List ℕ
   pub serves : ServesLines
-      (AnswersLinesFor (IsJournalAccess contents) (λ j. j.world) (λ j. is_own j.nodes)
+      (AnswersLinesFor (IsAccessOver contents held) (λ j. j.world) (λ j. is_own j.nodes)
       (λ j. trouble_of j.is_over (refused j.log)) node w)
       first (seen_as ended) input unread old new
   pub may_end : IfOk ended (MayEnd w)
 
 -- It does so; or it ends by the log or out of memory, and nothing is written.
-abbrev pub ServesLog : {L : Type 0} → (contents : L → Option Contents) → (refused : L → Option FileFault) → L
-    → (counter node : ℕ) → WrongLines → Result Ending Halt → (input : List ℕ) → (old new : Option (List ℕ)) → Type 0
-ServesLog contents refused log counter node w ended input old new =
-    StartsLog contents refused log counter node w ended input old new
+abbrev pub ServesLog : {L : Type 0} → (contents : L → Option Contents) → (held : L → Bool)
+    → (refused : L → Option FileFault) → L → (counter node : ℕ) → WrongLines → Result Ending Halt → (input : List ℕ)
+    → (old new : Option (List ℕ)) → Type 0
+ServesLog contents held refused log counter node w ended input old new =
+    StartsLog contents held refused log counter node w ended input old new
     ⊎ (is_not_started ended ≡ true) × (new ≡ old)

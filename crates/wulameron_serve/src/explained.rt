@@ -275,7 +275,7 @@ pub fn serve_log_explained<L: Refusing + Drop, R: Read + Drop, W: Write, E: Writ
     wrong_lines: WrongLines,
 ) -> Result<Ending, Halt>
     ensures { (bytes : List ℕ) → R.remaining input ≡ Some bytes
-        → ServesLogExplained L.contents L.refused log counter node wrong_lines result bytes
+        → ServesLogExplained L.contents L.held L.refused log counter node wrong_lines result bytes
         (W.contents output.old) (W.contents output.new) }
 {
     let mut journal = Journal::starting_at(alloc, log, Vec::new(alloc), counter);

@@ -175,7 +175,7 @@ fn serve_log<L: Refusing + Drop, D: DeadNodes + Drop, R: Read + Drop, W: Write, 
     wrong_lines: WrongLines,
 ) -> Result<Ending, Halt>
     ensures { (bytes : List ℕ) → R.remaining input ≡ Some bytes
-        → ServesLog L.contents L.refused log counter node wrong_lines result bytes
+        → ServesLog L.contents L.held L.refused log counter node wrong_lines result bytes
         (W.contents output.old) (W.contents output.new) }
 {
     let mut journal = Journal::starting_at(alloc, log, Vec::new(alloc), counter);

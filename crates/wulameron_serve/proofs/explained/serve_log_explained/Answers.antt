@@ -18,7 +18,7 @@ pub returns-in-Ok : goal.returns-in-Ok
 returns-in-Ok g c = λ bytes known.
     let journal = c.start-started.new.journal in
     let first = c.starting_at-journal.ensures ∙ ap (λ (ns : List ℕ). fresh c.args.log c.args.counter ns) c.new.ensures.items in
-    elim (c.serve_traced.ensures bytes known) as (λ x. ServesLogExplained g.L.Log.contents g.L.Refusing.refused c.args.log c.args.counter c.args.node c.args.wrong_lines c.serve_traced.result bytes (g.W.Write.contents c.args.output.now) (g.W.Write.contents c.serve_traced.new.output)) [
+    elim (c.serve_traced.ensures bytes known) as (λ x. ServesLogExplained g.L.Log.contents g.L.Log.held g.L.Refusing.refused c.args.log c.args.counter c.args.node c.args.wrong_lines c.serve_traced.result bytes (g.W.Write.contents c.args.output.now) (g.W.Write.contents c.serve_traced.new.output)) [
       | inl s ↦ inl (record {
         journal = journal;
         lives = subst (λ (j : JournalState g.row.L.Denot). Lives g.L.Log.contents j journal) first c.start-started.ensures.lives;
