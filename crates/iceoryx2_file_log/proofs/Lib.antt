@@ -5,3 +5,5 @@ pub mod Paths
 pub mod Crashes
 pub mod Snapshots
 pub mod Standing
+pub mod ByteSteps
+pub mod Keeping

@@ -13,6 +13,7 @@ use Rattle.iceoryx2_file_log.specs.declared.header.TheConstants.{HEADER_LENGTH}
 use Rattle.iceoryx2_file_log.specs.declared.header.Header.{Header}
 use Rattle.iceoryx2_file_log.specs.declared.cursor.State.{State}
 use Rattle.iceoryx2_file_log.specs.declared.cursor.State.TheVariants.{Free, Held}
+use Rattle.iceoryx2_file_log.specs.declared.cursor.State.TheVariants as state
 use Rattle.iceoryx2_file_log.specs.declared.remainder.Front.{Front}
 use Rattle.iceoryx2_file_log.specs.declared.remainder.Front.TheVariants.{Whole, Unfinished, Torn, Damaged}
 use Rattle.iceoryx2_file_log.specs.Errors.{log_error_of}
@@ -37,6 +38,20 @@ pub record HandleFacts : Type 0 where
   pub tries_from : ℕ
   -- where it stood before, while a compaction is begun and not ended
   pub former : Option Former
+  -- whether it has the lock of the file in which it stands
+  pub is_locked : Bool
+
+-- A held handle has the lock, and a free one hasn't. One that is used no more may have it.
+abbrev pub HasLock : State → Bool → Type 0
+HasLock Free is_locked = is_locked ≡ false
+HasLock Held is_locked = is_locked ≡ true
+HasLock state.Unsure is_locked = Unit {0}
+HasLock (state.Damaged at) is_locked = Unit {0}
+
+-- While a compaction is begun it has the locks of both files, and the one where it stood before is held.
+abbrev pub HasLocks : State → Bool → Option Former → Type 0
+HasLocks s is_locked None = HasLock s is_locked
+HasLocks s is_locked (Some was) = HasLock s is_locked × ((was.cursor.state ≡ Held) × (is_locked ≡ true))
 
 -- of the log with this header in the file of this path: nothing is taken over of it, and no compaction is begun
 abbrev pub new_handle : (path : List ℕ) → FileLogOptions → Header → HandleFacts
@@ -48,6 +63,7 @@ new_handle path options h = record {
   fault = None;
   tries_from = first_tried h;
   former = None;
+  is_locked = false;
 }
 
 -- A refused call answers by why it was refused, which is kept, and leaves the state after that.
@@ -136,9 +152,9 @@ abandoned f = back_in f f.former
 abbrev pub postponed : HandleFacts → HandleFacts
 postponed f = record f { tries_from = later f.cursor.file_length }
 
--- let go of, where the log is
+-- with the lock given back
 abbrev pub freed : HandleFacts → HandleFacts
-freed f = record f { cursor = let_go_of f.cursor }
+freed f = record f { cursor = let_go_of f.cursor; is_locked = false }
 
 -- It was let go of for a pause, or nothing changed.
 abbrev pub Pauses : Bool → HandleFacts → HandleFacts → Type 0

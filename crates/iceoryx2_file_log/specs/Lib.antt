@@ -8,6 +8,9 @@ pub mod Compaction
 pub mod Crashes
 pub mod Place
 pub mod Handle
+pub mod Medium
+pub mod Bytes
+pub mod Memory
 pub mod Moving
 pub mod Path
 pub mod Opening

@@ -1,8 +1,8 @@
 //! A log in a file, under the file's advisory lock.
 //!
 //! What a file holds is known to no contract, so `contents` claims nothing here. What is proved is what each call
-//! makes of where the handle stands: what was read of the file, what is taken over, and that only torn bytes and
-//! marks are cut off.
+//! makes of where the handle stands: what was read of the file, what is taken over, that only torn bytes and marks are
+//! cut off, and whether the handle has the lock (`HasLocks`). What it does to the bytes is in `bytes`, over any medium.
 //!
 //! A long log is compacted by whoever holds it. It makes a file beside the log's own, with a snapshot, and reads that.
 //! Then the old file gets a mark as its last entry, and the new one gets the path. Whoever still has the old file reads
@@ -10,9 +10,10 @@
 //! log: the old one, where a mark that is its last entry is cut off as long as it has the path itself, or the new one.
 
 ghost use Rattle.std.specs.Prelude.{◌≡◌, ◌≤◌, ◌<◌, ◌⊎◌, ◌↔◌, ◌++◌, List, ℕ, length, None, Some, Ok, Err};
-ghost use Rattle.std.specs.Prelude.{IfOk, IfErr, OnOk, OnErr, IfSome, IsTrue, string_bytes};
+ghost use Rattle.std.specs.Prelude.{IfOk, IfErr, OnOk, OnErr, IfSome, IsTrue, true, false, nat_lt, string_bytes};
 ghost use Rattle.std.specs.IoError.{error_kind};
 ghost use Rattle.iceoryx2_log.specs.Form.{Begins, IsForm};
+ghost use Rattle.iceoryx2_log.specs.Log.{is_shown};
 ghost use Rattle.iceoryx2_file_log.specs.declared.header.TheConstants.{HEADER_LENGTH};
 ghost use Rattle.iceoryx2_file_log.specs.declared.cursor.State.TheVariants as state;
 ghost use Rattle.iceoryx2_file_log.specs.declared.error.FileFault.TheVariants as fault;
@@ -32,37 +33,29 @@ mod former;
 mod marking;
 
 use self::former::FormerPlace;
-use self::marking::{cut_mark, cut_off};
+use self::marking::cut_mark;
+use crate::bytes::{append_at, cut_off, front_at, lock, pause_after};
 use crate::compaction::{
     first_tried, is_across_end, is_before_end, is_long, is_mark, length_later,
 };
 use crate::cursor::{Cursor, State};
 use crate::error::{FileFault, FileLogError, log_error, system_fault};
 use crate::header::{HEADER_LENGTH, Header};
-use crate::opening::{opened, read_some, reopened};
+use crate::locked_file::LockedFile;
+use crate::medium::Medium;
+use crate::opening::{opened, reopened};
 use crate::options::FileLogOptions;
-use crate::remainder::{Front, front_of};
+use crate::remainder::Front;
 use iceoryx2_log::entry::Entry;
 use iceoryx2_log::form::{EncodeError, encode};
 use iceoryx2_log::log::{Log, LogError};
-use std::alloc::{AllocError, Global};
-use std::fs::{File, TryLockError};
-use std::io::{self, ErrorKind};
+use std::alloc::AllocError;
+use std::fs::File;
 use std::marker::Model;
-use std::os::unix::fs::FileExt;
 use std::random::RandomSource;
 use std::rt::Files;
 use std::thread;
-use std::time::{Clock, Duration, Instant};
-
-/// How many bytes are read at once.
-const PIECE_LENGTH: usize = 8192;
-
-/// By how much each pause is longer than the one before, between two tries to hold the log and in a wait.
-const PAUSE_GROWTH_MICROS: u64 = 20;
-
-/// The longest of these pauses.
-const LONGEST_PAUSE_MICROS: u64 = 2000;
+use std::time::{Clock, Instant};
 
 /// A handle of a log in a file. It lets go of the log where it is dropped.
 pub struct FileLog<R> {
@@ -80,11 +73,13 @@ pub struct FileLog<R> {
     tries_from: u64,
     /// Where the handle stood before, while a compaction is begun and not ended.
     former: Option<FormerPlace>,
+    /// Whether this handle has the lock of its file.
+    is_locked: bool,
 }
 
 impl<R> Model for FileLog<R> {
     ghost use Rattle.std.specs.Prelude.{string_bytes};
-    ghost use Rattle.iceoryx2_file_log.specs.Handle.{HandleFacts};
+    ghost use Rattle.iceoryx2_file_log.specs.Handle.{HandleFacts, HasLocks};
 
     ghost Value = { HandleFacts };
 
@@ -96,7 +91,10 @@ impl<R> Model for FileLog<R> {
       fault = log.fault;
       tries_from = log.tries_from;
       former = log.former;
+      is_locked = log.is_locked;
     } };
+
+    ghost invariant = { λ log. HasLocks log.cursor.state log.is_locked log.former };
 }
 
 impl<R: Drop> Drop for FileLog<R> {
@@ -112,46 +110,12 @@ impl<R: Drop> Drop for FileLog<R> {
             wait_start: _,
             tries_from: _,
             former: _,
+            is_locked: _,
         } = self;
     }
 }
 
 // ---- the file
-
-/// How long the pause of this number takes, from 0 on.
-fn pause_after(round: u64) -> Duration {
-    let micros = round
-        .saturating_mul(PAUSE_GROWTH_MICROS)
-        .min(LONGEST_PAUSE_MICROS);
-    Duration::from_micros(micros)
-}
-
-/// Tries to lock the file until it is locked or the patience is over, with pauses that grow: `Busy` then.
-pub fn lock(clock: &impl Clock, file: &File, patience: Duration) -> Result<(), FileFault>
-    ensures { IfErr result (λ why. (why ≡ fault.Busy) ⊎ IsOfFile why) }
-{
-    let start = match Instant::now(clock) {
-        Ok(start) => start,
-        Err(error) => return Err(system_fault(&error)),
-    };
-    for round in 0..u64::MAX {
-        match file.try_lock() {
-            Ok(()) => return Ok(()),
-            Err(TryLockError::Error(error)) => return Err(system_fault(&error)),
-            Err(TryLockError::WouldBlock) => {}
-        }
-        match start.elapsed(clock) {
-            Err(error) => return Err(system_fault(&error)),
-            Ok(elapsed) => {
-                if patience <= elapsed {
-                    return Err(FileFault::Busy);
-                }
-            }
-        }
-        thread::sleep(clock, pause_after(round));
-    }
-    Err(FileFault::Busy)
-}
 
 /// How long the file is, which must not be shorter than what was taken over of it.
 fn measured(file: &File, position: u64) -> Result<u64, FileFault>
@@ -167,43 +131,6 @@ fn measured(file: &File, position: u64) -> Result<u64, FileFault>
             Ok(file_length)
         }
     }
-}
-
-/// Reads on, from where the file was read to.
-fn read_on(file: &File, cursor: &mut Cursor) -> Result<(), FileFault>
-    ensures { ReadsOn cursor.old cursor.new }
-{
-    let mut piece = [0u8; PIECE_LENGTH];
-    let wanted = cursor.missing().min(PIECE_LENGTH as u64) as usize;
-    let from = cursor.read_to();
-    let count = read_some(file, &mut piece[..wanted], from)?;
-    if count == 0 {
-        // The file became shorter while it was held.
-        return Err(FileFault::Damaged { at: from });
-    }
-    match cursor.read(&piece[..count]) {
-        Ok(()) => Ok(()),
-        Err(_) => Err(FileFault::OutOfMemory),
-    }
-}
-
-/// What stands at the position, after as much was read as has to be. It is never unfinished.
-fn front_at(file: &File, cursor: &mut Cursor, alloc: Global) -> Result<Front, FileFault>
-    ensures reads { ReadsOn cursor.old cursor.new }
-    ensures front { IfOk result (λ front. IsFront front cursor.new) }
-{
-    for _ in 0..u64::MAX {
-        match front_of(alloc, cursor.ahead(), cursor.left()) {
-            Ok(front) => match front {
-                Front::Unfinished => read_on(file, cursor)?,
-                _ => return Ok(front),
-            },
-            Err(_) => return Err(FileFault::OutOfMemory),
-        }
-    }
-    Err(FileFault::Failed {
-        kind: ErrorKind::Interrupted,
-    })
 }
 
 /// The entry at the position, or `None` where no more bytes stand there, after those are cut off that are torn, or a
@@ -224,9 +151,10 @@ fn next_at<R: Files + AllocGlobal>(
     ensures spares { SparesEntries cursor.old cursor.new }
     ensures sure { IfErr result (λ why. IsSureOfCuts synchronizes why cursor.old cursor.new) }
     ensures stays { (cursor.new.position ≡ cursor.old.position) × (cursor.new.state ≡ cursor.old.state) }
+    ensures shown { nat_lt 0 cursor.new.found ≡ is_shown result }
 {
     cursor.find(0);
-    match front_at(file, cursor, rt.alloc())? {
+    match front_at(&mut LockedFile::new(file), cursor, rt.alloc())? {
         Front::Whole { entry, count } => {
             if is_mark(&entry) {
                 cut_mark(rt, path, file, header, cursor, count, synchronizes)?;
@@ -245,71 +173,12 @@ fn next_at<R: Files + AllocGlobal>(
                     at: cursor.position(),
                 });
             }
-            cut_off(file, cursor, synchronizes)?;
+            cut_off(&mut LockedFile::new(file), cursor, synchronizes)?;
             Ok(None)
         }
         Front::Damaged | Front::Unfinished => Err(FileFault::Damaged {
             at: cursor.position(),
         }),
-    }
-}
-
-/// Synchronizes what was done to the file, where that is wanted.
-fn synchronize(file: &File, synchronizes: bool) -> io::Result<()> {
-    if synchronizes {
-        return file.sync_data();
-    }
-    Ok(())
-}
-
-/// Writes the bytes at this place, and synchronizes them where that is wanted.
-fn write(file: &File, form: &[u8], position: u64, synchronizes: bool) -> io::Result<()> {
-    file.write_all_at(form, position)?;
-    synchronize(file, synchronizes)
-}
-
-/// Makes the file end at this place, and synchronizes that where it is wanted.
-fn shorten(file: &File, position: u64, synchronizes: bool) -> io::Result<()> {
-    file.set_len(position)?;
-    synchronize(file, synchronizes)
-}
-
-/// Takes back what a write at the end has left that failed by this error, and gives why it is refused. `Unsure` where
-/// it can't be taken back, or that can't be synchronized where it is wanted.
-fn take_back(file: &File, position: u64, synchronizes: bool, error: &io::Error) -> FileFault
-    ensures { (result ≡ fault.Unsure) ⊎ (result ≡ kind_fault (error_kind error.now)) }
-{
-    match shorten(file, position, synchronizes) {
-        Ok(()) => system_fault(error),
-        Err(_) => FileFault::Unsure,
-    }
-}
-
-/// Writes an entry at the position, all of it or nothing. `Unsure` where a part that was written could not be taken
-/// back, or may come back with the power though the options synchronize.
-fn append_at(
-    file: &File,
-    cursor: &mut Cursor,
-    form: &[u8],
-    synchronizes: bool,
-) -> Result<(), FileFault>
-    requires { cursor.old.file_length ≡ cursor.old.position }
-    ensures ok { OnOk result (cursor.new ≡ appended (length form.now) cursor.old) }
-    ensures err { OnErr result (cursor.new ≡ cursor.old) }
-{
-    let position = cursor.position();
-    let count = form.len() as u64;
-    if u64::MAX - position < count {
-        return Err(FileFault::Failed {
-            kind: ErrorKind::FileTooLarge,
-        });
-    }
-    match write(file, form, position, synchronizes) {
-        Ok(()) => {
-            cursor.append(count);
-            Ok(())
-        }
-        Err(error) => Err(take_back(file, position, synchronizes, &error)),
     }
 }
 
@@ -362,6 +231,7 @@ impl<R: Files<File = File> + Clock + RandomSource + AllocGlobal + Drop> FileLog<
                 wait_start: None,
                 tries_from: first_tried(&header),
                 former: None,
+                is_locked: false,
             }),
             Err(fault) => Err(FileLogError::new(path, fault)),
         }
@@ -429,24 +299,23 @@ impl<R> FileLog<R> {
 impl<R: Clock> FileLog<R> {
     fn try_hold(&mut self) -> Result<(), FileFault>
         ensures ok { OnOk result (Holds self.old.cursor self.new.cursor) }
-        ensures err { OnErr result (self.new.cursor ≡ self.old.cursor) }
-        ensures same { self.new ≡ record self.old { cursor = self.new.cursor } }
+        ensures locks { OnOk result ((self.old.is_locked ≡ false) × (self.new.is_locked ≡ true)) }
+        ensures err { OnErr result (self.new ≡ self.old) }
+        ensures same { self.new ≡ record self.old { cursor = self.new.cursor; is_locked = self.new.is_locked } }
         ensures not_free { IfSome (why_not_free self.old.cursor.state) (λ why. result ≡ Err why) }
     {
         if let Some(why) = self.cursor.why_not_free() {
             return Err(why);
         }
-        lock(&self.rt, &self.file, self.options.patience)?;
-        match measured(&self.file, self.cursor.position()) {
-            Ok(file_length) => {
-                self.cursor.hold(file_length);
-                Ok(())
-            }
-            Err(why) => {
-                let _ = self.file.unlock();
-                Err(why)
-            }
+        let mut medium = LockedFile::new(&self.file);
+        let file_length = lock(&self.rt, &mut medium, self.options.patience)?;
+        if file_length < self.cursor.position() {
+            medium.unlock();
+            return Err(FileFault::Damaged { at: file_length });
         }
+        self.cursor.hold(file_length);
+        self.is_locked = true;
+        Ok(())
     }
 
     /// Whether a wait goes on with the pause of this number. With the number 0 it begins.
@@ -478,10 +347,12 @@ impl<R: Files + AllocGlobal> FileLog<R> {
         ensures position { self.new.cursor.position ≡ self.old.cursor.position }
         ensures state { self.new.cursor.state ≡ self.old.cursor.state }
         ensures same { self.new ≡ record self.old { cursor = self.new.cursor } }
+        ensures shown { nat_lt 0 self.new.cursor.found ≡ is_shown result }
         ensures not_held { IfSome (why_not_held self.old.cursor.state)
-            (λ why. (result ≡ Err why) × (self.new.cursor ≡ self.old.cursor)) }
+            (λ why. (result ≡ Err why) × (self.new.cursor ≡ record self.old.cursor { found = 0 })) }
     {
         if let Some(why) = self.cursor.why_not_held() {
+            self.cursor.find(0);
             return Err(why);
         }
         next_at(
@@ -498,6 +369,7 @@ impl<R: Files + AllocGlobal> FileLog<R> {
 impl<R: AllocGlobal> FileLog<R> {
     fn try_append(&mut self, entry: &Entry) -> Result<(), FileFault>
         ensures ok { OnOk result (Appends entry.now self.old.cursor self.new.cursor) }
+        ensures locked { OnOk result (self.old.is_locked ≡ true) }
         ensures err { OnErr result (self.new.cursor ≡ self.old.cursor) }
         ensures same { self.new ≡ record self.old { cursor = self.new.cursor } }
         ensures not_alone { IfSome (why_not_alone self.old.cursor.state self.old.former) (λ why. result ≡ Err why) }
@@ -510,7 +382,7 @@ impl<R: AllocGlobal> FileLog<R> {
         }
         match encode(self.rt.alloc(), entry) {
             Ok(form) => append_at(
-                &self.file,
+                &mut LockedFile::new(&self.file),
                 &mut self.cursor,
                 &form,
                 self.options.synchronizes,
@@ -524,13 +396,23 @@ impl<R: AllocGlobal> FileLog<R> {
 impl<R: Files<File = File> + Clock + AllocGlobal> Log for FileLog<R> {
     ghost contents = { λ _. None };
 
+    ghost held = { λ log. log.is_locked };
+
+    ghost shown = { λ log. nat_lt 0 log.cursor.found };
+
     /// `Busy` where others held it as long as the options allow, and `Damaged` where the file is shorter than what was
     /// taken over of it.
     fn hold(&mut self) -> Result<(), LogError>
         ensures ok { OnOk result (Holds self.old.cursor self.new.cursor × (self.new.fault ≡ self.old.fault)) }
         ensures err { IfErr result (λ e. IsRefused e self.new.fault self.old.cursor.state self.new.cursor.state) }
         ensures kept { OnErr result (self.new.cursor ≡ record self.old.cursor { state = self.new.cursor.state }) }
-        ensures same { self.new ≡ record self.old { cursor = self.new.cursor; fault = self.new.fault } }
+        ensures same { self.new ≡ record self.old {
+          cursor = self.new.cursor;
+          fault = self.new.fault;
+          is_locked = self.new.is_locked;
+        } }
+        ensures locks { OnOk result ((self.old.is_locked ≡ false) × (self.new.is_locked ≡ true)) }
+        ensures not_locked { OnErr result (self.new.is_locked ≡ self.old.is_locked) }
 
         // A handle that is used no more stays so.
         ensures not_free { IfSome (why_not_free self.old.cursor.state)
@@ -557,8 +439,9 @@ impl<R: Files<File = File> + Clock + AllocGlobal> Log for FileLog<R> {
             (λ why. IsSureOfCuts self.old.options.synchronizes why self.old.cursor self.new.cursor)) }
         ensures position { self.new.cursor.position ≡ self.old.cursor.position }
         ensures same { self.new ≡ record self.old { cursor = self.new.cursor; fault = self.new.fault } }
+        ensures shown { nat_lt 0 self.new.cursor.found ≡ is_shown result }
         ensures not_held { IfSome (why_not_held self.old.cursor.state)
-            (λ why. (result ≡ Err (log_error_of why)) × (self.new.cursor ≡ self.old.cursor)) }
+            (λ why. (result ≡ Err (log_error_of why)) × (self.new.cursor ≡ record self.old.cursor { found = 0 })) }
     {
         match self.try_next() {
             Ok(found) => Ok(found),
@@ -578,6 +461,7 @@ impl<R: Files<File = File> + Clock + AllocGlobal> Log for FileLog<R> {
     fn append(&mut self, entry: &Entry) -> Result<(), LogError>
         ensures ok { OnOk result (Appends entry.now self.old.cursor self.new.cursor
             × (self.new.fault ≡ self.old.fault)) }
+        ensures locked { OnOk result (self.old.is_locked ≡ true) }
         ensures err { IfErr result (λ e. IsRefused e self.new.fault self.old.cursor.state self.new.cursor.state) }
         ensures kept { OnErr result (self.new.cursor ≡ record self.old.cursor { state = self.new.cursor.state }) }
         ensures same { self.new ≡ record self.old { cursor = self.new.cursor; fault = self.new.fault } }
@@ -599,6 +483,7 @@ impl<R: Files<File = File> + Clock + AllocGlobal> Log for FileLog<R> {
         self.go_back();
         let _ = self.file.unlock();
         self.cursor.let_go();
+        self.is_locked = false;
     }
 
     /// False where the wait has taken the time that the options allow, and where the clock refuses. A compaction that

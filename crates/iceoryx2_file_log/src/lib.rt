@@ -14,15 +14,26 @@
 //! that it read begin; the file gets shorter only where all that is left is torn, or a mark (`SparesEntries`);
 //! `append` puts the whole form at the end (`Appends`) or leaves the position. After damage, or where nobody knows
 //! whether an append stands, each call is refused by that name. Handles begin after the header (`new_handle`);
-//! errors of `open` and `open_existing` have the path; `path::split` is exact. What a file holds no clause states.
+//! errors of `open` and `open_existing` have the path; `path::split` is exact.
+//!
+//! `bytes` is how a handle locks, reads, writes and cuts off, over any `Medium`: bytes under a lock, known where they
+//! can be (`Known`). The lock is had only where the medium grants it, what was read ahead stands at the position
+//! (`Reading`), an append leaves its bytes behind all others (`AppendsBytes`), or the bytes as they were, or is in doubt
+//! by name, and a cut leaves what stands before the position (`EndsAt`). Each change asks that what others may know of
+//! stays (`MayChangeFrom`). A file is such a medium by `LockedFile`, whose few lines are trusted: of what a real file
+//! holds nothing is known.
 #![tactic(auto)]
 
 pub mod ahead;
+pub mod bytes;
 pub mod compaction;
 pub mod cursor;
 pub mod error;
 pub mod file_log;
 pub mod header;
+pub mod locked_file;
+pub mod medium;
+pub mod memory;
 pub mod opening;
 pub mod options;
 pub mod path;

@@ -9,8 +9,9 @@ ghost use Rattle.iceoryx2_monitoring.specs.Errors.{IsClaimError, IsFreeClaimErro
 use crate::error::{MonitoringError, MonitoringFault, is_of_no_file, no_memory, refusal};
 use crate::path::token_path;
 use crate::state::{NodeState, state};
+use iceoryx2_file_log::bytes::lock;
 use iceoryx2_file_log::error::FileFault;
-use iceoryx2_file_log::file_log::lock;
+use iceoryx2_file_log::locked_file::LockedFile;
 use iceoryx2_file_log::opening::find_or_make_file;
 use iceoryx2_file_log::options::Sharing;
 use std::alloc::Global;
@@ -56,7 +57,8 @@ fn locked<R: Files<File = File> + Clock + RandomSource + AllocGlobal>(
     ensures { IfErr result (λ why. (why ≡ file.Busy) ⊎ IsOfFile why) }
 {
     let file = find_or_make_file(rt, path, sharing.mode())?;
-    lock(rt, &file, Duration::from_millis(PATIENCE_MILLIS))?;
+    let patience = Duration::from_millis(PATIENCE_MILLIS);
+    lock(rt, &mut LockedFile::new(&file), patience)?;
     Ok(file)
 }
 

@@ -4,10 +4,12 @@ ghost use Rattle.std.specs.Prelude.{◌≡◌, ◌≢◌, ◌≤◌, IfOk, IfErr
 ghost use Rattle.iceoryx2_file_log.specs.declared.error.FileFault.TheVariants as fault;
 ghost use Rattle.iceoryx2_file_log.specs.declared.header.TheConstants.{HEADER_LENGTH};
 
-use super::{lock, measured};
+use super::measured;
+use crate::bytes::lock;
 use crate::compaction::{Access, keeps_access};
 use crate::error::{FileFault, system_fault};
 use crate::header::{HEADER_LENGTH, Header, LogName};
+use crate::locked_file::LockedFile;
 use crate::opening::{number_of, reopened};
 use std::fs::{self, File, OpenOptions};
 use std::io::{self, ErrorKind};
@@ -67,7 +69,8 @@ fn prepare(
     if let Err(error) = fill(file, own, bytes) {
         return Err(system_fault(&error));
     }
-    lock(clock, file, patience)
+    lock(clock, &mut LockedFile::new(file), patience)?;
+    Ok(())
 }
 
 /// Makes the file of this path, of these bytes and of the own one's mode, synchronized and locked. Nothing is left
@@ -118,7 +121,7 @@ fn locked(
         Err(error) => Err(system_fault(&error)),
         Ok(true) => Ok(None),
         Ok(false) => {
-            lock(clock, &file, patience)?;
+            lock(clock, &mut LockedFile::new(&file), patience)?;
             Ok(Some(file))
         }
     }

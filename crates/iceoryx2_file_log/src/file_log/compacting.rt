@@ -121,7 +121,9 @@ impl<R: Files<File = File> + Clock + AllocGlobal> FileLog<R> {
 
     /// Goes to the file that was located, and gives up the own one, where it is another.
     pub(super) fn go_to(&mut self, found: Located)
-        requires { HEADER_LENGTH ≤ found.file_length }
+        requires length { HEADER_LENGTH ≤ found.file_length }
+        requires held { self.old.cursor.state ≡ state.Held }
+        requires alone { self.old.former ≡ None }
         ensures { self.new ≡ record self.old {
           header = found.header;
           cursor = at_beginning found.file_length;
@@ -219,7 +221,8 @@ impl<R: Files<File = File> + Clock + AllocGlobal> FileLog<R> {
 
     /// Goes to the new file of a compaction, and keeps where it stood.
     pub(super) fn enter(&mut self, place: NewPlace)
-        requires { HEADER_LENGTH ≤ length place.snapshot.bytes.items }
+        requires length { HEADER_LENGTH ≤ length place.snapshot.bytes.items }
+        requires held { self.old.cursor.state ≡ state.Held }
         ensures { self.new ≡ record self.old {
           header = place.snapshot.header;
           cursor = at_beginning (length place.snapshot.bytes.items);

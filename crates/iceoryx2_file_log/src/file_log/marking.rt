@@ -8,48 +8,15 @@ ghost use Rattle.iceoryx2_file_log.specs.Compaction.{IsMark, BeginsWithMark, May
 ghost use Rattle.iceoryx2_file_log.specs.Place.{left, cut};
 ghost use Rattle.iceoryx2_file_log.specs.Handle.{CutsMark, IsSureOfCuts};
 
-use super::{take_back, write};
+use crate::bytes::{cut_off, take_back, write};
 use crate::compaction::is_before_end;
 use crate::cursor::Cursor;
 use crate::error::{FileFault, system_fault};
 use crate::header::Header;
+use crate::locked_file::LockedFile;
 use crate::opening::{FileNumber, looked_up, number_of, sync_folder};
 use std::fs::{self, File};
-use std::io;
 use std::rt::Files;
-
-/// Why a cut is refused that is made and could not be synchronized. `Unsure` where that is wanted.
-fn cut_fault(error: &io::Error, synchronizes: bool) -> FileFault
-    ensures doubt { IsTrue synchronizes → result ≡ fault.Unsure }
-    ensures other { (IsTrue synchronizes → ⊥) → result ≡ kind_fault (error_kind error.now) }
-{
-    if synchronizes {
-        return FileFault::Unsure;
-    }
-    system_fault(error)
-}
-
-/// Cuts off what stands at the position, all of which is torn, or a mark, and synchronizes that.
-pub(super) fn cut_off(file: &File, cursor: &mut Cursor, synchronizes: bool) -> Result<(), FileFault>
-    requires torn { MayBeCut cursor.old.ahead }
-    requires all { left cursor.old ≤ length cursor.old.ahead }
-    ensures ok { OnOk result (cursor.new ≡ cut cursor.old) }
-    ensures err { OnErr result ((cursor.new ≡ cursor.old) ⊎ (cursor.new ≡ cut cursor.old)) }
-    ensures sure { IfErr result (λ why. IsSureOfCuts synchronizes why cursor.old cursor.new) }
-{
-    if cursor.is_read() {
-        cursor.cut();
-        return Ok(());
-    }
-    if let Err(error) = file.set_len(cursor.position()) {
-        return Err(system_fault(&error));
-    }
-    cursor.cut();
-    match file.sync_data() {
-        Ok(()) => Ok(()),
-        Err(error) => Err(cut_fault(&error, synchronizes)),
-    }
-}
 
 /// Whether the mark of this file is left of a move that was not made, since the file itself has the path.
 fn has_stayed(own: FileNumber, found: Option<FileNumber>) -> bool
@@ -96,7 +63,7 @@ pub(super) fn cut_mark(
     if !has_path(rt, path, file)? {
         return Err(FileFault::Moved);
     }
-    cut_off(file, cursor, synchronizes)
+    cut_off(&mut LockedFile::new(file), cursor, synchronizes)
 }
 
 /// Writes the mark at this place, and gives the path to the file beside.
@@ -107,9 +74,12 @@ fn mark_and_rename(
     position: u64,
     names: (&str, &str),
     synchronizes: bool,
-) -> io::Result<()> {
-    write(file, mark, position, synchronizes)?;
-    fs::rename(rt, names.0, names.1)
+) -> Result<(), FileFault> {
+    write(&mut LockedFile::new(file), mark, position, synchronizes)?;
+    match fs::rename(rt, names.0, names.1) {
+        Ok(()) => Ok(()),
+        Err(error) => Err(system_fault(&error)),
+    }
 }
 
 /// Moves a log from this file, which ends at this place, to the one beside: the file gets the mark, and the one beside
@@ -126,7 +96,8 @@ pub(super) fn move_log(
     requires { IsMark mark.now }
 {
     if let Err(error) = mark_and_rename(rt, file, mark, position, names, synchronizes) {
-        return Err(take_back(file, position, synchronizes, &error));
+        let mut medium = LockedFile::new(file);
+        return Err(take_back(&mut medium, position, synchronizes, error));
     }
     if !synchronizes {
         return Ok(());

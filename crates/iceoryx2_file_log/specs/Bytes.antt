@@ -1,0 +1,42 @@
+-- What a handle does to the bytes of its file.
+use Rattle.std.specs.Prelude.{ℕ, ◌≡◌, ◌⊎◌, Bool, true, List, ◌++◌, length, take, drop, Option}
+use Rattle.iceoryx2_file_log.specs.declared.error.FileFault.{FileFault}
+use Rattle.iceoryx2_file_log.specs.declared.error.FileFault.TheVariants as fault
+use Rattle.iceoryx2_file_log.specs.Place.{Place}
+use Rattle.iceoryx2_file_log.specs.Medium.{Known, Becomes, written}
+
+-- The handle has the lock, knows how long the file is, and what it read ahead stands at its position.
+pub record Reading (p : Place) (k : Known) : Type 0 where
+  pub locked : k.locked ≡ true
+  pub long : p.file_length ≡ length k.bytes
+  pub more : List ℕ
+  pub ahead : drop p.position k.bytes ≡ p.ahead ++ more
+
+-- All that was written stands there, and is synchronized where that was wanted.
+abbrev pub WritesAll : (at : ℕ) → List ℕ → (synchronizes : Bool) → Known → Known → Type 0
+WritesAll at bytes synchronizes old new =
+    new ≡ record old { bytes = written at bytes old.bytes; synchronized = synchronizes }
+
+-- It ends there, and that is synchronized where it was wanted.
+abbrev pub CutsAll : (at : ℕ) → (synchronizes : Bool) → Known → Known → Type 0
+CutsAll at synchronizes old new =
+    new ≡ record old { bytes = take at old.bytes; synchronized = synchronizes }
+
+-- It ends there, and nothing is lost before it. What was cut off doesn't come back with the power where that is wanted.
+pub record EndsAt (at : ℕ) (synchronizes : Bool) (old new : Known) : Type 0 where
+  pub bytes : new.bytes ≡ take at old.bytes
+  pub sure : (new.bytes ≡ old.bytes) ⊎ (synchronizes ≡ true → new.synchronized ≡ true)
+
+-- The bytes stand behind all others, and are synchronized where that was wanted.
+abbrev pub AppendsBytes : List ℕ → (synchronizes : Bool) → Known → Known → Type 0
+AppendsBytes bytes synchronizes old new =
+    new ≡ record old { bytes = old.bytes ++ bytes; synchronized = synchronizes }
+
+abbrev pub SameBytes : Known → Known → Type 0
+SameBytes old new = new.bytes ≡ old.bytes
+
+-- Why a write is refused: for its own reason, and none of what it wrote is left, or because that is in doubt.
+abbrev pub IsTakenBack : FileFault → (error : FileFault) → (at : ℕ) → (synchronizes : Bool)
+    → Option Known → Option Known → Type 0
+IsTakenBack why error at synchronizes old new =
+    (why ≡ fault.Unsure) ⊎ (why ≡ error) × Becomes (CutsAll at synchronizes) old new

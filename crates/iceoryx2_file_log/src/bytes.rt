@@ -1,0 +1,259 @@
+//! What a handle does to the bytes of its file, over any medium.
+
+ghost use Rattle.std.specs.Prelude.{◌≡◌, ◌+◌, ◌≤◌, ◌⊎◌, length, IfOk, IfErr, OnOk, OnErr, IfSome, IsTrue};
+ghost use Rattle.iceoryx2_file_log.specs.declared.error.FileFault.TheVariants as fault;
+ghost use Rattle.iceoryx2_file_log.specs.Errors.{IsOfFile};
+ghost use Rattle.iceoryx2_file_log.specs.Compaction.{MayBeCut};
+ghost use Rattle.iceoryx2_file_log.specs.Place.{left, cut, appended};
+ghost use Rattle.iceoryx2_file_log.specs.Handle.{ReadsOn, IsFront, IsSureOfCuts};
+ghost use Rattle.iceoryx2_file_log.specs.Medium.{Becomes, IsFree, Grants, MayChangeFrom, WritesSome};
+ghost use Rattle.iceoryx2_file_log.specs.Bytes.{Reading, WritesAll, CutsAll, EndsAt, AppendsBytes, SameBytes, IsTakenBack};
+
+use crate::cursor::Cursor;
+use crate::error::{FileFault, system_fault};
+use crate::medium::Medium;
+use crate::remainder::{Front, front_of};
+use std::alloc::Global;
+use std::io::ErrorKind;
+use std::thread;
+use std::time::{Clock, Duration, Instant};
+
+/// How many bytes are read at once.
+const PIECE_LENGTH: usize = 8192;
+
+/// By how much each pause is longer than the one before, between two tries to hold the log and in a wait.
+const PAUSE_GROWTH_MICROS: u64 = 20;
+
+/// The longest of these pauses.
+const LONGEST_PAUSE_MICROS: u64 = 2000;
+
+// ---- the lock
+
+/// How long the pause of this number takes, from 0 on.
+pub(crate) fn pause_after(round: u64) -> Duration {
+    let micros = round
+        .saturating_mul(PAUSE_GROWTH_MICROS)
+        .min(LONGEST_PAUSE_MICROS);
+    Duration::from_micros(micros)
+}
+
+/// Tries to lock the file until it is locked or the patience is over, with pauses that grow: `Busy` then. Gives how long
+/// the file is.
+pub fn lock<C: Clock, M: Medium>(
+    clock: &C,
+    medium: &mut M,
+    patience: Duration,
+) -> Result<u64, FileFault>
+    requires { IfSome (M.known medium.old) IsFree }
+    ensures ok { IfOk result (λ count. Becomes (Grants count) (M.known medium.old) (M.known medium.new)) }
+    ensures err { OnErr result (M.known medium.new ≡ M.known medium.old) }
+    ensures why { IfErr result (λ why. (why ≡ fault.Busy) ⊎ IsOfFile why) }
+{
+    let start = match Instant::now(clock) {
+        Ok(start) => start,
+        Err(error) => return Err(system_fault(&error)),
+    };
+    for round in 0..u64::MAX {
+        match medium.try_lock() {
+            Ok(Some(count)) => return Ok(count),
+            Ok(None) => {}
+            Err(why) => return Err(why),
+        }
+        match start.elapsed(clock) {
+            Err(error) => return Err(system_fault(&error)),
+            Ok(elapsed) => {
+                if patience <= elapsed {
+                    return Err(FileFault::Busy);
+                }
+            }
+        }
+        thread::sleep(clock, pause_after(round));
+    }
+    Err(FileFault::Busy)
+}
+
+// ---- reading
+
+/// Reads on, from where the file was read to, by at most so many bytes.
+pub fn read_into<M: Medium>(
+    medium: &mut M,
+    cursor: &mut Cursor,
+    piece: &mut [u8],
+) -> Result<(), FileFault>
+    requires reading { IfSome (M.known medium.old) (Reading cursor.old) }
+    requires room { cursor.old.position + length cursor.old.ahead + length piece.old ≤ cursor.old.file_length }
+    ensures reading { IfSome (M.known medium.new) (Reading cursor.new) }
+    ensures reads { ReadsOn cursor.old cursor.new }
+    ensures same { M.known medium.new ≡ M.known medium.old }
+{
+    let from = cursor.read_to();
+    let count = medium.read_at(piece, from)?;
+    if count == 0 {
+        // The file became shorter while it was held.
+        return Err(FileFault::Damaged { at: from });
+    }
+    match cursor.read(&piece[..count]) {
+        Ok(()) => Ok(()),
+        Err(_) => Err(FileFault::OutOfMemory),
+    }
+}
+
+/// Reads on, from where the file was read to.
+fn read_on<M: Medium>(medium: &mut M, cursor: &mut Cursor) -> Result<(), FileFault>
+    requires { IfSome (M.known medium.old) (Reading cursor.old) }
+    ensures reading { IfSome (M.known medium.new) (Reading cursor.new) }
+    ensures reads { ReadsOn cursor.old cursor.new }
+    ensures same { M.known medium.new ≡ M.known medium.old }
+{
+    let mut piece = [0u8; PIECE_LENGTH];
+    let wanted = cursor.missing().min(PIECE_LENGTH as u64) as usize;
+    read_into(medium, cursor, &mut piece[..wanted])
+}
+
+/// What stands at the position, after as much was read as has to be. It is never unfinished.
+pub fn front_at<M: Medium>(
+    medium: &mut M,
+    cursor: &mut Cursor,
+    alloc: Global,
+) -> Result<Front, FileFault>
+    requires { IfSome (M.known medium.old) (Reading cursor.old) }
+    ensures reading { IfSome (M.known medium.new) (Reading cursor.new) }
+    ensures reads { ReadsOn cursor.old cursor.new }
+    ensures front { IfOk result (λ front. IsFront front cursor.new) }
+    ensures same { M.known medium.new ≡ M.known medium.old }
+{
+    for _ in 0..u64::MAX {
+        match front_of(alloc, cursor.ahead(), cursor.left()) {
+            Ok(front) => match front {
+                Front::Unfinished => read_on(medium, cursor)?,
+                _ => return Ok(front),
+            },
+            Err(_) => return Err(FileFault::OutOfMemory),
+        }
+    }
+    Err(FileFault::Failed {
+        kind: ErrorKind::Interrupted,
+    })
+}
+
+// ---- writing and cutting off
+
+/// Writes the bytes at this place, and synchronizes them where that is wanted.
+pub fn write<M: Medium>(
+    medium: &mut M,
+    form: &[u8],
+    at: u64,
+    synchronizes: bool,
+) -> Result<(), FileFault>
+    requires { IfSome (M.known medium.old) (MayChangeFrom at) }
+    ensures ok { OnOk result (Becomes (WritesAll at form.now synchronizes) (M.known medium.old) (M.known medium.new)) }
+    ensures err { OnErr result (Becomes (WritesSome at form.now) (M.known medium.old) (M.known medium.new)) }
+{
+    medium.write_all_at(form, at)?;
+    if synchronizes {
+        return medium.sync();
+    }
+    Ok(())
+}
+
+/// Makes the file end at this place, and synchronizes that where it is wanted.
+fn shorten<M: Medium>(medium: &mut M, at: u64, synchronizes: bool) -> Result<(), FileFault>
+    requires { IfSome (M.known medium.old) (MayChangeFrom at) }
+    ensures { OnOk result (Becomes (CutsAll at synchronizes) (M.known medium.old) (M.known medium.new)) }
+{
+    medium.set_len(at)?;
+    if synchronizes {
+        return medium.sync();
+    }
+    Ok(())
+}
+
+/// Takes back what a write at the end has left that failed by this error, and gives why it is refused. `Unsure` where
+/// it can't be taken back, or that can't be synchronized where it is wanted.
+pub fn take_back<M: Medium>(
+    medium: &mut M,
+    at: u64,
+    synchronizes: bool,
+    error: FileFault,
+) -> FileFault
+    requires { IfSome (M.known medium.old) (MayChangeFrom at) }
+    ensures { IsTakenBack result error at synchronizes (M.known medium.old) (M.known medium.new) }
+{
+    match shorten(medium, at, synchronizes) {
+        Ok(()) => error,
+        Err(_) => FileFault::Unsure,
+    }
+}
+
+/// Writes an entry at the position, all of it or nothing. `Unsure` where a part that was written could not be taken
+/// back, or may come back with the power though the options synchronize.
+pub fn append_at<M: Medium>(
+    medium: &mut M,
+    cursor: &mut Cursor,
+    form: &[u8],
+    synchronizes: bool,
+) -> Result<(), FileFault>
+    requires all_read { cursor.old.file_length ≡ cursor.old.position }
+    requires reading { IfSome (M.known medium.old) (Reading cursor.old) }
+    requires may { IfSome (M.known medium.old) (MayChangeFrom cursor.old.position) }
+    ensures ok { OnOk result (cursor.new ≡ appended (length form.now) cursor.old) }
+    ensures err { OnErr result (cursor.new ≡ cursor.old) }
+    ensures stands { OnOk result (Becomes (AppendsBytes form.now synchronizes)
+        (M.known medium.old) (M.known medium.new)) }
+    ensures none { IfErr result (λ why. (why ≡ fault.Unsure)
+        ⊎ Becomes SameBytes (M.known medium.old) (M.known medium.new)) }
+{
+    let position = cursor.position();
+    let count = form.len() as u64;
+    if u64::MAX - position < count {
+        return Err(FileFault::Failed {
+            kind: ErrorKind::FileTooLarge,
+        });
+    }
+    match write(medium, form, position, synchronizes) {
+        Ok(()) => {
+            cursor.append(count);
+            Ok(())
+        }
+        Err(error) => Err(take_back(medium, position, synchronizes, error)),
+    }
+}
+
+/// Why a cut is refused that is made and could not be synchronized. `Unsure` where that is wanted.
+fn cut_fault(error: FileFault, synchronizes: bool) -> FileFault
+    ensures doubt { IsTrue synchronizes → result ≡ fault.Unsure }
+    ensures other { (IsTrue synchronizes → ⊥) → result ≡ error }
+{
+    if synchronizes {
+        return FileFault::Unsure;
+    }
+    error
+}
+
+/// Cuts off what stands at the position, all of which is torn, or a mark, and synchronizes that.
+pub fn cut_off<M: Medium>(
+    medium: &mut M,
+    cursor: &mut Cursor,
+    synchronizes: bool,
+) -> Result<(), FileFault>
+    requires torn { MayBeCut cursor.old.ahead }
+    requires all { left cursor.old ≤ length cursor.old.ahead }
+    requires reading { IfSome (M.known medium.old) (Reading cursor.old) }
+    requires may { IfSome (M.known medium.old) (MayChangeFrom cursor.old.position) }
+    ensures ok { OnOk result (cursor.new ≡ cut cursor.old) }
+    ensures err { OnErr result ((cursor.new ≡ cursor.old) ⊎ (cursor.new ≡ cut cursor.old)) }
+    ensures sure { IfErr result (λ why. IsSureOfCuts synchronizes why cursor.old cursor.new) }
+    ensures ends { OnOk result (Becomes (EndsAt cursor.old.position synchronizes)
+        (M.known medium.old) (M.known medium.new)) }
+{
+    if cursor.is_read() {
+        cursor.cut();
+        return Ok(());
+    }
+    medium.set_len(cursor.position())?;
+    cursor.cut();
+    match medium.sync() {
+        Ok(()) => Ok(()),
+        Err(error) => Err(cut_fault(error, synchronizes)),
+    }
+}

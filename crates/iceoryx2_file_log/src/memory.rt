@@ -1,0 +1,199 @@
+//! A file in memory, for tests: what it holds is known, and what others do and what refuses is handed in.
+
+ghost use Rattle.std.specs.Prelude.{◌≡◌, ◌≤◌, false, length, IfOk};
+ghost use Rattle.iceoryx2_file_log.specs.Medium.{written, MayChangeFrom};
+ghost use Rattle.iceoryx2_file_log.specs.Bytes.{Reading};
+
+use crate::cursor::Cursor;
+use crate::error::FileFault;
+use crate::medium::Medium;
+use std::alloc::{AllocError, Global};
+
+/// What a file in memory refuses.
+#[derive(Clone, Copy)]
+pub struct Refusals {
+    /// How many tries to take the lock find that others have it.
+    pub busy: u64,
+    /// After how many bytes each write is refused.
+    pub write: Option<usize>,
+    /// Whether each cut is refused.
+    pub cut: bool,
+    /// Whether nothing can be synchronized.
+    pub sync: bool,
+}
+
+/// Nothing is refused.
+pub const NOTHING_REFUSED: Refusals = Refusals {
+    busy: 0,
+    write: None,
+    cut: false,
+    sync: false,
+};
+
+/// A file in memory. What others append stands there when the lock is granted the first time.
+#[derive(Drop)]
+pub struct MemoryFile {
+    alloc: Global,
+    bytes: Vec<u8>,
+    standing: Vec<u8>,
+    is_locked: bool,
+    is_synchronized: bool,
+    others: Vec<u8>,
+    refusals: Refusals,
+    piece: usize,
+}
+
+/// The bytes with these written there.
+fn with_written(alloc: Global, old: &[u8], at: usize, bytes: &[u8]) -> Result<Vec<u8>, AllocError>
+    requires { at ≤ length old.now }
+    ensures { IfOk result (λ new. new.items ≡ written at bytes.now old.now) }
+{
+    let mut new = Vec::from_slice(alloc, &old[..at])?;
+    new.extend_from_slice(bytes)?;
+    if bytes.len() < old.len() - at {
+        new.extend_from_slice(&old[at + bytes.len()..])?;
+    }
+    Ok(new)
+}
+
+impl MemoryFile {
+    ghost use Rattle.iceoryx2_file_log.specs.Memory.{known_of};
+    ghost use Rattle.iceoryx2_file_log.specs.Medium.{IsFree};
+
+    /// A file of these bytes, to which others append so many. The lock is free. A read gives at most so many bytes, and
+    /// at least one.
+    pub fn new(
+        alloc: Global,
+        bytes: Vec<u8>,
+        others: Vec<u8>,
+        refusals: Refusals,
+        piece: usize,
+    ) -> MemoryFile
+        ensures free { IsFree (known_of result) }
+        ensures bytes { (known_of result).bytes ≡ bytes.items }
+    {
+        MemoryFile {
+            alloc,
+            bytes,
+            standing: Vec::new(alloc),
+            is_locked: false,
+            is_synchronized: false,
+            others,
+            refusals,
+            piece,
+        }
+    }
+
+    pub fn bytes(&self) -> &[u8]
+        ensures { result.now ≡ (known_of self.now).bytes }
+    {
+        &self.bytes
+    }
+
+    /// Takes the lock, and stands at the end. `Busy` where others have it.
+    pub fn hold_end(&mut self) -> Result<Cursor, FileFault>
+        requires { IsFree (known_of self.old) }
+        ensures reading { IfOk result (λ cursor. Reading cursor (known_of self.new)) }
+        ensures may { IfOk result (λ cursor. MayChangeFrom cursor.position (known_of self.new)) }
+        ensures all_read { IfOk result (λ cursor. cursor.file_length ≡ cursor.position) }
+    {
+        match self.try_lock() {
+            Ok(Some(file_length)) => {
+                let mut cursor = Cursor::new(self.alloc, file_length);
+                cursor.hold(file_length);
+                Ok(cursor)
+            }
+            Ok(None) => Err(FileFault::Busy),
+            Err(why) => Err(why),
+        }
+    }
+
+    /// Takes the lock, and stands at this place, or at the end where that is before it.
+    pub fn hold_at(&mut self, position: u64) -> Result<Cursor, FileFault>
+        requires { IsFree (known_of self.old) }
+        ensures { IfOk result (λ cursor. Reading cursor (known_of self.new)) }
+    {
+        match self.try_lock() {
+            Ok(Some(file_length)) => {
+                let mut cursor = Cursor::new(self.alloc, position.min(file_length));
+                cursor.hold(file_length);
+                Ok(cursor)
+            }
+            Ok(None) => Err(FileFault::Busy),
+            Err(why) => Err(why),
+        }
+    }
+}
+
+impl Medium for MemoryFile {
+    ghost use Rattle.std.specs.Prelude.{Some};
+    ghost use Rattle.iceoryx2_file_log.specs.Memory.{known_of};
+
+    ghost known = { λ file. Some (known_of file) };
+
+    fn try_lock(&mut self) -> Result<Option<u64>, FileFault> {
+        if self.refusals.busy > 0 {
+            self.refusals.busy -= 1;
+            return Ok(None);
+        }
+        let Ok(mut bytes) = Vec::from_slice(self.alloc, &self.bytes) else {
+            return Err(FileFault::OutOfMemory);
+        };
+        let Ok(()) = bytes.extend_from_slice(&self.others) else {
+            return Err(FileFault::OutOfMemory);
+        };
+        let Ok(standing) = Vec::from_slice(self.alloc, &bytes) else {
+            return Err(FileFault::OutOfMemory);
+        };
+        self.others.clear();
+        self.bytes = bytes;
+        self.standing = standing;
+        self.is_locked = true;
+        Ok(Some(self.bytes.len() as u64))
+    }
+
+    fn unlock(&mut self) {
+        self.is_locked = false;
+    }
+
+    fn read_at(&mut self, out: &mut [u8], at: u64) -> Result<usize, FileFault> {
+        let from = (at as usize).min(self.bytes.len());
+        let rest = &self.bytes[from..];
+        let count = rest.len().min(out.len()).min(self.piece.max(1));
+        out[..count].copy_from_slice(&rest[..count]);
+        Ok(count)
+    }
+
+    fn write_all_at(&mut self, bytes: &[u8], at: u64) -> Result<(), FileFault> {
+        self.is_synchronized = false;
+        let count = match self.refusals.write {
+            None => bytes.len(),
+            Some(count) => count.min(bytes.len()),
+        };
+        match with_written(self.alloc, &self.bytes, at as usize, &bytes[..count]) {
+            Ok(new) => self.bytes = new,
+            Err(_) => return Err(FileFault::OutOfMemory),
+        }
+        match self.refusals.write {
+            None => Ok(()),
+            Some(_) => Err(FileFault::DiskFull),
+        }
+    }
+
+    fn set_len(&mut self, at: u64) -> Result<(), FileFault> {
+        if self.refusals.cut {
+            return Err(FileFault::NoPermission);
+        }
+        self.bytes.truncate(at as usize);
+        self.is_synchronized = false;
+        Ok(())
+    }
+
+    fn sync(&mut self) -> Result<(), FileFault> {
+        if self.refusals.sync {
+            return Err(FileFault::DiskFull);
+        }
+        self.is_synchronized = true;
+        Ok(())
+    }
+}
