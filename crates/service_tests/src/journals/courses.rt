@@ -34,10 +34,10 @@ const LONGEST: usize = 1000;
 const COUNTER: u64 = 5;
 
 /// How many histories a test draws, each from a seed of its own.
-const HISTORIES: u64 = 1000;
+const HISTORIES: u64 = 500;
 
 /// The fewest entries of the courses of a test.
-const FEWEST: u64 = 5000;
+const FEWEST: u64 = 2500;
 
 /// The number of what is written under the hash.
 fn row_number(world: &StoredWorld, hash: &ServiceHash) -> Option<u64> {
@@ -306,21 +306,21 @@ fn compare_from(rt: &impl Abort, alloc: Global, first: u64) {
 }
 
 #[test]
-fn a_course_leads_to_the_later_world_in_histories_0_to_999(rt: HostRuntime) {
+fn a_course_leads_to_the_later_world_in_histories_0_to_499(rt: HostRuntime) {
     compare_from(&rt, rt.alloc(), 0);
 }
 
 #[test]
-fn a_course_leads_to_the_later_world_in_histories_1000_to_1999(rt: HostRuntime) {
+fn a_course_leads_to_the_later_world_in_histories_500_to_999(rt: HostRuntime) {
+    compare_from(&rt, rt.alloc(), 500);
+}
+
+#[test]
+fn a_course_leads_to_the_later_world_in_histories_1000_to_1499(rt: HostRuntime) {
     compare_from(&rt, rt.alloc(), 1000);
 }
 
 #[test]
-fn a_course_leads_to_the_later_world_in_histories_2000_to_2999(rt: HostRuntime) {
-    compare_from(&rt, rt.alloc(), 2000);
-}
-
-#[test]
-fn a_course_leads_to_the_later_world_in_histories_3000_to_3999(rt: HostRuntime) {
-    compare_from(&rt, rt.alloc(), 3000);
+fn a_course_leads_to_the_later_world_in_histories_1500_to_1999(rt: HostRuntime) {
+    compare_from(&rt, rt.alloc(), 1500);
 }

@@ -12,7 +12,7 @@ use std::process::Abort;
 use test_support::plain::Plain;
 
 /// How many schedules a test draws, each from a seed of its own.
-const SCHEDULES: u64 = 500;
+const SCHEDULES: u64 = 200;
 
 /// How many commands a schedule has.
 const COMMANDS: u64 = 8;
@@ -124,9 +124,9 @@ fn compare_all(rt: &impl Abort, forms: &Forms, schedule: u64, tally: &mut Tally)
 }
 
 /// The fewest calls of a pattern that are granted in the schedules of a test, and the fewest that are
-/// refused. Of 4,000 commands 2,800 are calls, 933 of each pattern; one in nine names no slot, and even if
-/// half of the others find theirs in use, 415 are left, which are granted or refused.
-const FEWEST: u64 = 200;
+/// refused. Of 1,600 commands 1,120 are calls, 373 of each pattern; one in nine names no slot, and even if
+/// half of the others find theirs in use, 166 are left, which are granted or refused.
+const FEWEST: u64 = 80;
 
 /// Compares the bodies in the schedules whose seeds begin with this one.
 fn compare_from(rt: &impl Abort, alloc: Global, first: u64) {
@@ -142,21 +142,21 @@ fn compare_from(rt: &impl Abort, alloc: Global, first: u64) {
 }
 
 #[test]
-fn both_tables_answer_alike_in_schedules_0_to_499(rt: HostRuntime) {
+fn both_tables_answer_alike_in_schedules_0_to_199(rt: HostRuntime) {
     compare_from(&rt, rt.alloc(), 0);
 }
 
 #[test]
-fn both_tables_answer_alike_in_schedules_500_to_999(rt: HostRuntime) {
-    compare_from(&rt, rt.alloc(), 500);
+fn both_tables_answer_alike_in_schedules_200_to_399(rt: HostRuntime) {
+    compare_from(&rt, rt.alloc(), 200);
 }
 
 #[test]
-fn both_tables_answer_alike_in_schedules_1000_to_1499(rt: HostRuntime) {
-    compare_from(&rt, rt.alloc(), 1000);
+fn both_tables_answer_alike_in_schedules_400_to_599(rt: HostRuntime) {
+    compare_from(&rt, rt.alloc(), 400);
 }
 
 #[test]
-fn both_tables_answer_alike_in_schedules_1500_to_1999(rt: HostRuntime) {
-    compare_from(&rt, rt.alloc(), 1500);
+fn both_tables_answer_alike_in_schedules_600_to_799(rt: HostRuntime) {
+    compare_from(&rt, rt.alloc(), 600);
 }
