@@ -4,6 +4,7 @@ tools/calls.c keeps them, in the programs that Runs starts. So each snapshot is 
 took, and the entries of all files are one list, in which places are counted as if the log had never been compacted.
 """
 import os
+import re
 from dataclasses import dataclass, replace
 
 from logs.form import FILE_HEADER_LENGTH, Log, Wrong, read_log
@@ -157,10 +158,15 @@ def replay(runs, path, what):
     return history, world
 
 
-def check_beside(runs, path, what, most=0):
-    """At most so many files stand beside the log but for the nodes', and they are those of compactions."""
+def check_beside(runs, path, what, most=0, making=0):
+    """At most so many files stand beside the log but for the nodes', and they are those of compactions.
+
+    Of processes that may have been killed while they made the log each may have left the file that was to be linked.
+    """
     others = sorted(set(os.listdir(path.parent)) - {path.name})
     others = [name for name in others if not name.startswith((f"{path.name}.node-", "errors-"))]
-    fine = len(others) <= most and set(others) <= {f"{path.name}.compacted"}
-    runs.need(fine, f"{what}: beside it stand {others}")
+    new = [name for name in others if re.fullmatch(re.escape(path.name) + r"\.new-[0-9a-f]{16}", name)]
+    others = [name for name in others if name not in new]
+    fine = len(others) <= most and set(others) <= {f"{path.name}.compacted"} and len(new) <= making
+    runs.need(fine, f"{what}: beside it stand {others + new}")
     return others

@@ -376,5 +376,5 @@ def storm(runs, seed, flags=()):
         check_listings(runs, processes, log, what)
         check_world(runs, processes, world, what)
         check_file(runs, path, log, what)
-        check_beside(runs, path, what, most=1)
+        check_beside(runs, path, what, most=1, making=sum(process.is_killed for process in processes))
         check_afterwards(runs, path, log, processes, what)
