@@ -314,13 +314,3 @@ fn a_course_leads_to_the_later_world_in_histories_0_to_499(rt: HostRuntime) {
 fn a_course_leads_to_the_later_world_in_histories_500_to_999(rt: HostRuntime) {
     compare_from(&rt, rt.alloc(), 500);
 }
-
-#[test]
-fn a_course_leads_to_the_later_world_in_histories_1000_to_1499(rt: HostRuntime) {
-    compare_from(&rt, rt.alloc(), 1000);
-}
-
-#[test]
-fn a_course_leads_to_the_later_world_in_histories_1500_to_1999(rt: HostRuntime) {
-    compare_from(&rt, rt.alloc(), 1500);
-}

@@ -148,13 +148,3 @@ fn a_journal_answers_as_the_plain_table_in_schedules_0_to_199(rt: HostRuntime) {
 fn a_journal_answers_as_the_plain_table_in_schedules_200_to_399(rt: HostRuntime) {
     compare_from(&rt, rt.alloc(), 200);
 }
-
-#[test]
-fn a_journal_answers_as_the_plain_table_in_schedules_400_to_599(rt: HostRuntime) {
-    compare_from(&rt, rt.alloc(), 400);
-}
-
-#[test]
-fn a_journal_answers_as_the_plain_table_in_schedules_600_to_799(rt: HostRuntime) {
-    compare_from(&rt, rt.alloc(), 600);
-}

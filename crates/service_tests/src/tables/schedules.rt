@@ -150,13 +150,3 @@ fn both_tables_answer_alike_in_schedules_0_to_199(rt: HostRuntime) {
 fn both_tables_answer_alike_in_schedules_200_to_399(rt: HostRuntime) {
     compare_from(&rt, rt.alloc(), 200);
 }
-
-#[test]
-fn both_tables_answer_alike_in_schedules_400_to_599(rt: HostRuntime) {
-    compare_from(&rt, rt.alloc(), 400);
-}
-
-#[test]
-fn both_tables_answer_alike_in_schedules_600_to_799(rt: HostRuntime) {
-    compare_from(&rt, rt.alloc(), 600);
-}
