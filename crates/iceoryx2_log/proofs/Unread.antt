@@ -17,22 +17,22 @@ all_read zero (x ∷ xs) le = absurd (omega arith)
 all_read (suc n) (x ∷ xs) le = all_read n xs (omega arith)
 
 abbrev pub split_at : ℕ → List Entry → Contents
-split_at n xs = record { taken = take n xs; unread = drop n xs }
+split_at n xs = record { begins = 0; taken = take n xs; unread = drop n xs }
 
 abbrev behind : Entry → Contents → Contents
-behind x c = record { taken = x ∷ c.taken; unread = c.unread }
+behind x c = record c { taken = x ∷ c.taken }
 
-accepted_behind : (x : Entry) (taken unread : List Entry) → behind x (accepted taken unread) ≡ accepted (x ∷ taken) unread
+accepted_behind : (x : Entry) (taken unread : List Entry) → behind x (accepted 0 taken unread) ≡ accepted 0 (x ∷ taken) unread
 accepted_behind x taken [] = refl
 accepted_behind x taken (e ∷ unread) = refl
 
-accepted_suc : (n : ℕ) (xs : List Entry) → n < length xs → split_at (suc n) xs ≡ accepted (take n xs) (drop n xs)
+accepted_suc : (n : ℕ) (xs : List Entry) → n < length xs → split_at (suc n) xs ≡ accepted 0 (take n xs) (drop n xs)
 accepted_suc zero [] lt = absurd (omega arith)
 accepted_suc (suc n) [] lt = absurd (omega arith)
 accepted_suc zero (x ∷ xs) lt = refl
 accepted_suc (suc n) (x ∷ xs) lt = ap (behind x) (accepted_suc n xs (omega arith)) ∙ accepted_behind x (take n xs) (drop n xs)
 
-pub accepted_one : (n : ℕ) (xs : List Entry) → n < length xs → split_at (n + 1) xs ≡ accepted (take n xs) (drop n xs)
+pub accepted_one : (n : ℕ) (xs : List Entry) → n < length xs → split_at (n + 1) xs ≡ accepted 0 (take n xs) (drop n xs)
 accepted_one n xs lt =
     let next : n + 1 ≡ suc n = omega arith in
     ap (λ (k : ℕ). split_at k xs) next ∙ accepted_suc n xs lt

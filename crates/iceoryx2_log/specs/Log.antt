@@ -1,9 +1,12 @@
 -- What a handle of a log knows of it, and what each call makes of that.
-use Rattle.std.specs.Prelude.{◌≡◌, Bool, true, false, List, [], ◌∷◌, ◌++◌, Option, Some, None, Result, Ok, Err}
+use Rattle.std.specs.Prelude.{◌≡◌, ℕ, Bool, true, false, List, [], ◌∷◌, ◌++◌, Option, Some, None, Result, Ok, Err}
 use Rattle.iceoryx2_log.specs.declared.entry.Entry.{Entry}
 
--- The entries that a handle has taken over or appended, in order, and those that stand behind them.
+-- What stands in the place where a handle is: the entries that it has taken over or appended, in order, and those that
+-- stand behind them.
 pub record Contents : Type 0 where
+  -- the number with which the counter begins before the first of them
+  pub begins : ℕ
   pub taken : List Entry
   pub unread : List Entry
 
@@ -17,6 +20,7 @@ WhereKnown step None (Some new) = ⊥
 -- Entries of others have come behind the unread ones.
 pub record Grows (old new : Contents) : Type 0 where
   pub come : List Entry
+  pub begins : new.begins ≡ old.begins
   pub taken : new.taken ≡ old.taken
   pub unread : new.unread ≡ old.unread ++ come
 
@@ -36,15 +40,30 @@ is_shown (Ok None) = false
 is_shown (Err error) = false
 
 -- with the first of the unread entries taken over, where there is one
-abbrev pub accepted : List Entry → List Entry → Contents
-accepted taken [] = record { taken = taken; unread = [] }
-accepted taken (e ∷ unread) = record { taken = taken ++ e ∷ []; unread = unread }
+abbrev pub accepted : (begins : ℕ) → (taken unread : List Entry) → Contents
+accepted begins taken [] = record { begins = begins; taken = taken; unread = [] }
+accepted begins taken (e ∷ unread) = record { begins = begins; taken = taken ++ e ∷ []; unread = unread }
 
 abbrev pub Accepts : Contents → Contents → Type 0
-Accepts old new = new ≡ accepted old.taken old.unread
+Accepts old new = new ≡ accepted old.begins old.taken old.unread
 
 -- Nothing was unread, and the entry is the last one now.
 pub record Appends (e : Entry) (old new : Contents) : Type 0 where
   pub none_unread : old.unread ≡ []
+  pub begins : new.begins ≡ old.begins
   pub taken : new.taken ≡ old.taken ++ e ∷ []
+  pub unread : new.unread ≡ []
+
+-- ---- another place
+
+-- It stands before the first entry of another place, where the counter begins with this number.
+pub record Rejoins (counter : ℕ) (old new : Contents) : Type 0 where
+  pub begins : new.begins ≡ counter
+  pub taken : new.taken ≡ []
+
+-- Nothing was unread, and it stands in a new place, behind these entries, which are all. The counter begins with 0 there.
+pub record Compacts (snapshot : List Entry) (old new : Contents) : Type 0 where
+  pub none_unread : old.unread ≡ []
+  pub begins : new.begins ≡ 0
+  pub taken : new.taken ≡ snapshot
   pub unread : new.unread ≡ []

@@ -66,7 +66,7 @@ Holds old (Err Moved) new = ⊥
 
 -- The first of the unread entries is taken over, where it was shown.
 abbrev pub accepted_where : Bool → LogState → Contents
-accepted_where true s = accepted s.contents.taken s.contents.unread
+accepted_where true s = accepted s.contents.begins s.contents.taken s.contents.unread
 accepted_where false s = s.contents
 
 -- ---- append

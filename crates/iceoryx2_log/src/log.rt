@@ -1,9 +1,9 @@
 //! A log that processes share.
 
-ghost use Rattle.std.specs.Prelude.{◌≡◌, Option, None, Bool, true, false, IfOk, OnOk, OnErr, IsTrue};
+ghost use Rattle.std.specs.Prelude.{◌≡◌, Option, Bool, true, false, IfOk, OnOk, OnErr};
 ghost use Rattle.std.specs.Prelude.{if◌then◌else◌};
 ghost use Rattle.iceoryx2_log.specs.declared.log.LogError.TheVariants.{OutOfMemory};
-ghost use Rattle.iceoryx2_log.specs.Log.{Contents, WhereKnown, Grows, Shows, Accepts, Appends, is_shown};
+ghost use Rattle.iceoryx2_log.specs.Log.{Contents, WhereKnown, Grows, Shows, Accepts, Appends, Rejoins, Compacts, is_shown};
 
 use crate::entry::Entry;
 use std::alloc::{AllocError, AllocFailed};
@@ -64,7 +64,8 @@ impl<T: Drop> From<AllocFailed<T>> for LogError {
 /// order, one at a time by `next` and `accept`, and appends its own behind them. Between `hold` and `let_go`, or a
 /// `pause` that lets go of it, no other handle appends.
 pub trait Log {
-    /// What this handle has taken over or appended, in order, and what stands behind that, where it is known.
+    /// What this handle has taken over or appended in the place where it is, in order, and what stands behind that, where
+    /// it is known.
     ghost contents: { Self → Option Contents };
 
     /// Whether this handle holds the log.
@@ -117,42 +118,32 @@ pub trait Log {
         ensures same { contents self.new ≡ contents self.old }
         ensures held { held self.new ≡ (if result then false else held self.old) };
 
-    // ---- compaction: the log goes on in another place, which begins with a snapshot. Only one whose contents are
-    // known to no contract does so.
+    // ---- compaction: the log goes on in another place, which begins with a snapshot
 
-    /// Goes to the place where the log goes on now, holds it there, and stands before its snapshot. Gives the number
+    /// Goes to the place where the log goes on now, holds it there, and stands before its first entry. Gives the number
     /// with which the counter begins there. `Failed` where the log isn't held. An `Err` leaves this handle where it
     /// stood.
     fn rejoin(&mut self) -> Result<u64, LogError>
-        ensures ok { OnOk result (contents self.old ≡ None) }
-        ensures same { contents self.new ≡ contents self.old }
+        ensures ok { IfOk result (λ counter. WhereKnown (Rejoins counter) (contents self.old) (contents self.new)) }
+        ensures err { OnErr result (contents self.new ≡ contents self.old) }
         ensures held { held self.new ≡ held self.old };
 
-    /// Whether the next entry is one of the snapshot with which the log begins.
-    fn is_in_snapshot(&self) -> bool
-        ensures { IsTrue result → contents self.now ≡ None };
+    /// Whether the next entry is one of the snapshot with which the place begins.
+    fn is_in_snapshot(&self) -> bool;
 
     /// Whether the log has grown so long that a compaction may be worth it.
-    fn is_long(&self) -> bool
-        ensures { IsTrue result → contents self.now ≡ None };
+    fn is_long(&self) -> bool;
 
-    /// Begins a compaction: makes another place, which nobody else finds yet, with these entries as its snapshot, holds
-    /// it, and stands before them. Gives the number with which the counter begins there. `Failed` where the log isn't
-    /// held, an entry is unread, or too little would be saved. After an `Err` this handle stands where it stood.
-    fn begin_compaction(&mut self, snapshot: &[Entry]) -> Result<u64, LogError>
-        ensures ok { OnOk result (contents self.old ≡ None) }
-        ensures same { contents self.new ≡ contents self.old }
+    /// Goes on in another place, which begins with these entries, with the counter from 0 on: all handles find it from
+    /// now on, and this one stands behind the entries. `Failed` where the log isn't held, an entry is unread, or too
+    /// little would be saved. An `Err` leaves this handle where it stood.
+    fn compact(&mut self, snapshot: &[Entry]) -> Result<(), LogError>
+        ensures ok { OnOk result (WhereKnown (Compacts snapshot.now) (contents self.old) (contents self.new)) }
+        ensures err { OnErr result (contents self.new ≡ contents self.old) }
         ensures held { held self.new ≡ held self.old };
 
-    /// Ends the compaction that was begun, where its snapshot was read: all handles find the new place from now on.
-    /// After an `Err` this handle stands in the old place again.
-    fn finish_compaction(&mut self) -> Result<(), LogError>
-        ensures same { contents self.new ≡ contents self.old }
-        ensures held { held self.new ≡ held self.old };
-
-    /// Gives up the compaction that was begun, if one was: this handle stands in the old place again, and the next one
-    /// is worth a try later.
-    fn abandon_compaction(&mut self)
+    /// The next compaction is worth a try later.
+    fn put_off_compaction(&mut self)
         ensures same { contents self.new ≡ contents self.old }
         ensures held { held self.new ≡ held self.old };
 }

@@ -113,7 +113,7 @@ impl Model for MemoryLog {
     ghost Value = { LogState };
 
     ghost view = { λ l. record {
-      contents = record { taken = take l.taken l.entries.items; unread = drop l.taken l.entries.items };
+      contents = record { begins = 0; taken = take l.taken l.entries.items; unread = drop l.taken l.entries.items };
       appended = l.appended.items;
       batches = drop l.came l.batches.items;
       held = l.held;
@@ -134,7 +134,7 @@ impl MemoryLog {
     pub fn from_entries(alloc: Global, entries: Vec<Entry>, taken: usize) -> MemoryLog
         requires { taken ≤ length entries.items }
         ensures { result ≡ record {
-          contents = record { taken = take taken entries.items; unread = drop taken entries.items };
+          contents = record { begins = 0; taken = take taken entries.items; unread = drop taken entries.items };
           appended = [];
           batches = [];
           held = false;
@@ -394,19 +394,13 @@ impl Log for MemoryLog {
         false
     }
 
-    fn begin_compaction(&mut self, _snapshot: &[Entry]) -> Result<u64, LogError>
+    fn compact(&mut self, _snapshot: &[Entry]) -> Result<(), LogError>
         ensures { (result ≡ Err LogError.Failed) × (self.new ≡ self.old) }
     {
         Err(LogError::Failed)
     }
 
-    fn finish_compaction(&mut self) -> Result<(), LogError>
-        ensures { (result ≡ Err LogError.Failed) × (self.new ≡ self.old) }
-    {
-        Err(LogError::Failed)
-    }
-
-    fn abandon_compaction(&mut self)
+    fn put_off_compaction(&mut self)
         ensures { self.new ≡ self.old }
     {}
 }
