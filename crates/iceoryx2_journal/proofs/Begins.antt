@@ -7,27 +7,25 @@ use Rattle.iceoryx2_world.specs.World.{World}
 use Rattle.iceoryx2_log.specs.Log.{Contents, WhereKnown, Grows}
 use Rattle.iceoryx2_journal.specs.declared.taking.Stop.{Stop}
 use Rattle.iceoryx2_journal.specs.declared.taking.Stop.TheVariants as stop
-use Rattle.iceoryx2_journal.specs.Taking.{ends, IsAllTaken, TakesOver, Stops, unread, TakesSome}
+use Rattle.iceoryx2_journal.specs.Taking.{ends, IsAllTaken, Reaches, ReachesSome, Stops, seen, unread}
 use Rattle.iceoryx2_journal.specs.Logged.{IsLoggedPart}
 use Rattle.iceoryx2_journal.specs.Journal.{JournalState, is_mine, TakesAll, Fails, barred, stopped, Begins, IsJournalAccess, fails, acts}
-use Rattle.iceoryx2_journal.proofs.Takes.{takes_not, takes_both, over_both}
+use Rattle.iceoryx2_journal.proofs.Reaching.{reach_not, reach_grown, reach_both}
 
-pub held_not : {nodes : List ℕ} {w : World} {c d : Option Contents} → d ≡ c → TakesSome nodes stop.Later w w c d
-held_not {nodes} {w} {c} {d} same = record { between = w; takes = takes_not nodes w c d same; stops = unread refl refl }
+pub held_not : {nodes : List ℕ} {p : Bool} {w : World} {c d : Option Contents} → d ≡ c → ReachesSome nodes p p stop.Later w w c d
+held_not {nodes} {p} {w} {c} {d} same = record { between = w; reaches = reach_not nodes p w c d same; stops = unread refl refl }
 
-pub fell_short : {nodes : List ℕ} {s : Stop} {u v : World} {b c d f : Option Contents} → WhereKnown Grows b c → TakesSome nodes s u v c d → f ≡ d → TakesSome nodes s u v b f
-fell_short {nodes} {s} {u} {v} {b} grow t same = record {
-  between = t.between;
-  takes = subst (λ x. TakesOver nodes u t.between b x) (sym same) (takes_both grow t.takes);
-  stops = subst (λ x. Stops nodes x t.between s v) (sym same) t.stops;
-}
+pub fell_short : {nodes : List ℕ} {p q : Bool} {s : Stop} {u v : World} (b c d f : Option Contents) → WhereKnown Grows b c → ReachesSome nodes p q s u v c d → f ≡ d → ReachesSome nodes p q s u v b f
+fell_short {nodes} {p} {q} {s} {u} {v} b c d f grow t same =
+    subst (λ x. ReachesSome nodes p q s u v b x) (sym same)
+    (record { between = t.between; reaches = reach_grown p q b c d grow t.reaches; stops = t.stops })
 
 -- the own nodes, as a slice and as a list
-pub listed_some : {xs nodes : List ℕ} {s : Stop} {u v : World} {c d : Option Contents} → xs ≡ nodes → TakesSome xs s u v c d → TakesSome nodes s u v c d
-listed_some {s} {u} {v} {c} {d} same t = subst (λ ns. TakesSome ns s u v c d) same t
+pub listed_some : {xs nodes : List ℕ} {p q : Bool} {s : Stop} {u v : World} {c d : Option Contents} → xs ≡ nodes → ReachesSome xs p q s u v c d → ReachesSome nodes p q s u v c d
+listed_some {p} {q} {s} {u} {v} {c} {d} same t = subst (λ ns. ReachesSome ns p q s u v c d) same t
 
-pub listed_over : {xs nodes : List ℕ} {u v : World} {c d : Option Contents} → xs ≡ nodes → TakesOver xs u v c d → TakesOver nodes u v c d
-listed_over {u} {v} {c} {d} same t = subst (λ ns. TakesOver ns u v c d) same t
+pub listed_over : {xs nodes : List ℕ} {p q : Bool} {u v : World} {c d : Option Contents} → xs ≡ nodes → Reaches xs p q u v c d → Reaches nodes p q u v c d
+listed_over {p} {q} {u} {v} {c} {d} same t = subst (λ ns. Reaches ns p q u v c d) same t
 
 pub not_mine : (m o : Bool) → m ≡ false → (m && not o) ≡ false
 not_mine false o e = refl
@@ -48,11 +46,11 @@ module _ {L : Type 0} {contents : L → Option Contents} {mine : Bool} {j old ne
   pub barred_from : (mine && not j.is_over) ≡ false → new ≡ j → Fails contents mine old new
   barred_from isnt same = subst (λ o. Fails contents mine o new) view (barred isnt same)
 
-  pub stopped_from : {s : Stop} → (mine && not j.is_over) ≡ true → TakesSome j.nodes s j.world new.world (contents j.log) (contents new.log) → new.nodes ≡ j.nodes → new.is_over ≡ ends s → Fails contents mine old new
-  stopped_from {s} holds t kept over = subst (λ o. Fails contents mine o new) view (stopped t.between s holds t.takes t.stops kept over)
+  pub stopped_from : {s : Stop} → (mine && not j.is_over) ≡ true → ReachesSome j.nodes j.is_lost new.is_lost s j.world new.world (contents j.log) (contents new.log) → new.nodes ≡ j.nodes → new.is_over ≡ ends s → Fails contents mine old new
+  stopped_from {s} holds t kept over = subst (λ o. Fails contents mine o new) view (stopped t.between s holds t.reaches t.stops kept over)
 
-  pub all_from : mine ≡ true → j.is_over ≡ false → TakesOver j.nodes j.world new.world (contents j.log) (contents new.log) → IsAllTaken (contents new.log) → new.nodes ≡ j.nodes → new.is_over ≡ j.is_over → (mine ≡ true) × TakesAll contents old new
-  all_from holds not_over t all kept over = (holds, subst (λ o. TakesAll contents o new) view (record { takes = t; all = all; nodes = kept; was_not_over = not_over; is_not_over = over ∙ not_over }))
+  pub all_from : mine ≡ true → j.is_over ≡ false → Reaches j.nodes j.is_lost new.is_lost j.world new.world (contents j.log) (contents new.log) → IsAllTaken (contents new.log) → new.nodes ≡ j.nodes → new.is_over ≡ j.is_over → new.is_lost ≡ false → (mine ≡ true) × TakesAll contents old new
+  all_from holds not_over t all kept over found = (holds, subst (λ o. TakesAll contents o new) view (record { takes = t; all = all; nodes = kept; was_not_over = not_over; is_not_over = over ∙ not_over; is_not_lost = found }))
 
 module _ {L : Type 0} {contents : L → Option Contents} {old mid : JournalState L} {l : Letter} where
   -- it did not begin
@@ -62,36 +60,38 @@ module _ {L : Type 0} {contents : L → Option Contents} {old mid : JournalState
 
   -- It began, and then there was an own part. The state after it began is seen as j.
   pub acted : {j new : JournalState L} → j ≡ mid → (b : Bool) → b ≡ true → Begins contents (is_mine old.nodes l) b old mid
-      → IsLoggedPart contents j.world l new.world j.log new.log → new.nodes ≡ j.nodes → new.is_over ≡ j.is_over → IsJournalAccess contents old l new
-  acted {j} {new} view false is f part nodes over = absurd (cc)
-  acted {j} {new} view true is f part nodes over =
-      acts j f.0 (subst (λ m. TakesAll contents old m) (sym view) f.1) part nodes over
+      → IsLoggedPart contents j.world l new.world j.log new.log → new.nodes ≡ j.nodes → new.is_over ≡ j.is_over → new.is_lost ≡ j.is_lost → IsJournalAccess contents old l new
+  acted {j} {new} view false is f part nodes over lost = absurd (cc)
+  acted {j} {new} view true is f part nodes over lost =
+      acts j f.0 (subst (λ m. TakesAll contents old m) (sym view) f.1) part nodes over lost
 
 -- All was taken over, and then more may be.
 module _ {L : Type 0} {contents : L → Option Contents} {old mid new : JournalState L} where
   -- the log has what it had
   pub still_all : new ≡ record mid { log = new.log } → contents new.log ≡ contents mid.log → TakesAll contents old mid → TakesAll contents old new
   still_all same kept t = subst (λ j. TakesAll contents old j) (sym same) (record {
-    takes = subst (λ c. TakesOver old.nodes old.world mid.world (contents old.log) c) (sym kept) t.takes;
+    takes = subst (λ c. Reaches old.nodes old.is_lost mid.is_lost old.world mid.world (contents old.log) c) (sym kept) t.takes;
     all = subst IsAllTaken (sym kept) t.all;
     nodes = t.nodes;
     was_not_over = t.was_not_over;
     is_not_over = t.is_not_over;
+    is_not_lost = t.is_not_lost;
   })
 
   pub all_both : TakesAll contents old mid → TakesAll contents mid new → TakesAll contents old new
   all_both s t = record {
-    takes = over_both s.takes (listed_over s.nodes t.takes);
+    takes = reach_both old.is_lost mid.is_lost new.is_lost (contents old.log) (contents mid.log) (contents new.log) s.takes (listed_over s.nodes t.takes);
     all = t.all;
     nodes = t.nodes ∙ s.nodes;
     was_not_over = s.was_not_over;
     is_not_over = t.is_not_over;
+    is_not_lost = t.is_not_lost;
   }
 
   pub fails_later : {mine : Bool} → (mine ≡ true) × TakesAll contents old mid → Fails contents mine mid new → Fails contents mine old new
   fails_later {mine} s (barred isnt same) = let may = may_begin mine mid.is_over s.0 s.1.is_not_over in absurd (cc)
   fails_later {mine} s (stopped w stop holds t stops kept over) =
       stopped w stop (may_begin mine old.is_over s.0 s.1.was_not_over)
-      (over_both s.1.takes (listed_over s.1.nodes t))
-      (subst (λ ns. Stops ns (contents new.log) w stop new.world) s.1.nodes stops)
+      (reach_both old.is_lost mid.is_lost new.is_lost (contents old.log) (contents mid.log) (contents new.log) s.1.takes (listed_over s.1.nodes t))
+      (subst (λ ns. Stops ns (seen new.is_lost (contents new.log)) w stop new.world) s.1.nodes stops)
       (kept ∙ s.1.nodes) over

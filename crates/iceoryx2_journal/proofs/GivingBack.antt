@@ -41,8 +41,8 @@ pub given_more : (c : Cleaned) (word : List Letter) (l : Letter) (g : GivenBack)
 given_more c [] l g is = ap (with_one c) (sym is)
 given_more c (x ∷ word) l g is = given_more (with_one c (given_back x)) word l g is
 
-with_nodes : {L : Type 0} (j : JournalState L) (log : L) (ns ms : List ℕ) → ns ≡ ms → ◌≡◌ {A = JournalState L} (record { world = j.world; log = log; nodes = ns; is_over = j.is_over }) (record { world = j.world; log = log; nodes = ms; is_over = j.is_over })
-with_nodes j log ns ms e = λ k. record { world = j.world; log = log; nodes = e k; is_over = j.is_over }
+with_nodes : {L : Type 0} (j : JournalState L) (log : L) (ns ms : List ℕ) → ns ≡ ms → ◌≡◌ {A = JournalState L} (record { world = j.world; log = log; nodes = ns; is_over = j.is_over; is_lost = j.is_lost }) (record { world = j.world; log = log; nodes = ms; is_over = j.is_over; is_lost = j.is_lost })
+with_nodes j log ns ms e = λ k. record { world = j.world; log = log; nodes = e k; is_over = j.is_over; is_lost = j.is_lost }
 
 module _ {L : Type 0} {contents : L → Option Contents} where
   -- ---- one step
@@ -55,8 +55,8 @@ module _ {L : Type 0} {contents : L → Option Contents} where
   pub stepped : (i : ℕ) {old mid new j : JournalState L} {held : Holding} {o : Option GivenBack} {s : Step} {h : Option Holding} → j ≡ mid → s ≡ step_with o → (true ≡ true) × TakesAll contents old mid
       → IsHolding j.world i h → h ≡ Some held
       → (l : Letter) × GivesUp i held l × (given_back l ≡ o) × IsLoggedPart contents j.world l new.world j.log new.log
-      → new.nodes ≡ j.nodes → new.is_over ≡ j.is_over → CleansNext contents i s old new
-  stepped i {old} {mid} {new} {j} {held} {o} view is all has there gave nodes over =
+      → new.nodes ≡ j.nodes → new.is_over ≡ j.is_over → new.is_lost ≡ j.is_lost → CleansNext contents i s old new
+  stepped i {old} {mid} {new} {j} {held} {o} view is all has there gave nodes over lost =
       subst (λ s. CleansNext contents i s old new) (sym is)
       (step_case o gave.0 (record {
         mid = j;
@@ -67,6 +67,7 @@ module _ {L : Type 0} {contents : L → Option Contents} where
         part = gave.3;
         nodes = nodes;
         over = over;
+        lost = lost;
       }) gave.2)
 
   -- ---- all steps
@@ -84,7 +85,7 @@ module _ {L : Type 0} {contents : L → Option Contents} where
   -- ---- a node that becomes an own one
 
   pub adopted : {i : ℕ} {old mid j : JournalState L} {nodes : List ℕ} {log : L} → j ≡ mid → (true ≡ true) × TakesAll contents old mid → nodes ≡ j.nodes ++ i ∷ [] → contents log ≡ contents j.log
-      → Adopts contents i (Ok tt) old (record { world = j.world; log = log; nodes = nodes; is_over = j.is_over })
+      → Adopts contents i (Ok tt) old (record { world = j.world; log = log; nodes = nodes; is_over = j.is_over; is_lost = j.is_lost })
   adopted {i} {old} {mid} {j} {nodes} {log} view all is kept =
       (j, subst (λ m. TakesAll contents old m) (sym view) all.1, with_nodes j log nodes (j.nodes ++ i ∷ []) is, kept)
 

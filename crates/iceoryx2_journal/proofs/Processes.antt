@@ -1,5 +1,5 @@
 -- What holds of several processes over one log.
-use Rattle.std.proofs.Common.{◌≡◌, ◌≢◌, ℕ, ◌≤◌, ◌<◌, ◌⊎◌, inl, inr, true, false, nat_eq, List, [], ◌∷◌, ◌++◌, length, Option, Some, None, Ok, append_assoc, refl, sym, ap, subst, ◌∙◌, arith}
+use Rattle.std.proofs.Common.{◌≡◌, ◌≢◌, ℕ, ◌≤◌, ◌<◌, inl, inr, true, false, nat_eq, List, [], ◌∷◌, ◌++◌, length, Option, Some, None, Ok, append_assoc, refl, sym, ap, subst, ◌∙◌, arith}
 use Rattle.std.specs.FinMap as map
 use Rattle.std.specs.List.{cons_option, AllByRecursion, IsDistinct}
 use Rattle.std.proofs.lemmas.Bool.Decides.{nat_tests}
@@ -13,17 +13,16 @@ use Rattle.iceoryx2_access.specs.Letter.{Letter}
 use Rattle.iceoryx2_access.specs.Letter as letter
 use Rattle.iceoryx2_access.specs.Registered.{Registered}
 use Rattle.iceoryx2_access.specs.Run.{Run, done, next, Each}
-use Rattle.iceoryx2_access.proofs.Run.{both}
 use Rattle.iceoryx2_world.specs.Sets as set
 use Rattle.iceoryx2_world.specs.declared.world.Participant.{Participant}
 use Rattle.iceoryx2_world.specs.declared.world.Participant.TheVariants.{Node}
 use Rattle.iceoryx2_world.specs.declared.world.Row.{Row}
 use Rattle.iceoryx2_world.specs.declared.world.Row.TheVariants as row
 use Rattle.iceoryx2_world.specs.Orders.{participant_cmp, participant_total}
-use Rattle.iceoryx2_world.specs.World.{World, Segment, row_of, segment_of, locked_number, row_number, empty_world}
+use Rattle.iceoryx2_world.specs.World.{World, Segment, row_of, segment_of, locked_number, row_number}
 use Rattle.iceoryx2_world.specs.Acts as act
 use Rattle.iceoryx2_world.specs.Agreement.{HasMember, LaterAt, Later}
-use Rattle.iceoryx2_world.specs.Across.{Agrees, KeepsAgreement}
+use Rattle.iceoryx2_world.specs.Across.{Agrees}
 use Rattle.iceoryx2_world.specs.Access.{IsOwnPart}
 use Rattle.iceoryx2_world.specs.Interference.{everyone, IsFallibleUnder}
 use Rattle.iceoryx2_world.specs.Standing.{Stands, Spares}
@@ -31,7 +30,7 @@ use Rattle.iceoryx2_world.proofs.agreement.Moved.{contains_remove_other}
 use Rattle.iceoryx2_world.proofs.agreement.Effects.{allowed_step}
 use Rattle.iceoryx2_world.proofs.agreement.Worlds.{same_node, step_locks}
 use Rattle.iceoryx2_world.proofs.agreement.Parts.{publishing}
-use Rattle.iceoryx2_world.proofs.agreement.Accesses.{own_keeps, keeps_along}
+use Rattle.iceoryx2_world.proofs.agreement.Accesses.{own_keeps, later_trans}
 use Rattle.iceoryx2_world.proofs.agreement.Stands.{faulty_stands, published_stands}
 use Rattle.iceoryx2_world.proofs.agreement.Empty.{empty_agrees}
 use Rattle.iceoryx2_world.proofs.agreement.Interference.{rely_same}
@@ -40,17 +39,19 @@ use Rattle.iceoryx2_log.specs.declared.entry.Deed.TheVariants as deed
 use Rattle.iceoryx2_log.specs.declared.entry.Entry.{Entry}
 use Rattle.iceoryx2_log.specs.Log.{Contents}
 use Rattle.iceoryx2_table.specs.Spending.{Spends, LocksOrGivesUp}
-use Rattle.iceoryx2_journal.specs.Follow.{Grants, IsEntryOf}
+use Rattle.iceoryx2_journal.specs.Follow.{Grants}
 use Rattle.iceoryx2_journal.specs.Taking.{is_own}
 use Rattle.iceoryx2_journal.specs.Journal.{JournalState}
-use Rattle.iceoryx2_journal.specs.Replay.{ComesTo, fetches, happens, spends, HasTaken}
+use Rattle.iceoryx2_journal.specs.Replay.{ComesTo, fetches, happens, spends, HasTaken, AmountsTo}
 use Rattle.iceoryx2_journal.specs.Replay as replay
 use Rattle.iceoryx2_table.specs.Same.{IsSameButRead}
-use Rattle.iceoryx2_journal.specs.Processes.{published_number, published_numbers, release_of, AllSpare, AreOfOthers, HasRead, StandsAtTheEnd, HasPart}
+use Rattle.iceoryx2_journal.specs.Processes.{GoesOnBy, GoesOn, at_once, across, published_number, published_numbers, release_of, AllSpare, AreOfOthers, HasRead, StandsAtTheEnd, HasPart}
 use Rattle.iceoryx2_journal.specs.Processes.{AgreesInEach, GoesOnFromOthers, PublishesOnce, CarriesOneDescription, StandsInOthers, OwnStandsInOthers, OwnStandsAtTheEnd, FewHaveAPart}
+use Rattle.iceoryx2_journal.specs.Processes.{ReadsOn, here, compacted, then, HasPartBefore, StandsAcross, CarriesOneAcross, FewAcross}
 use Rattle.iceoryx2_journal.proofs.Following.{spent_by_locks}
+use Rattle.iceoryx2_journal.proofs.ComingTo.{comes_keep, spent_keeps, IsFrontOf, fronts}
+use Rattle.iceoryx2_journal.proofs.Amounts.{amounts_agree, amounts_go_on, stands_amount}
 use Rattle.iceoryx2_journal.proofs.Replaying.{is_what_it_comes_to}
-use Rattle.iceoryx2_journal.proofs.SameWorlds.{same_itself, one_world}
 
 -- ---- lists
 
@@ -69,40 +70,6 @@ is_other_number : (m n : ℕ) → nat_eq m n ≡ false → n ≢ m
 is_other_number m n other e = grind (arith, nat_tests, e, other)
 
 -- ---- what entries make of a world
-
--- first of some entries, and then of others
-record Parted (es fs : List Entry) (w v : World) : Type 0 where
-  mid : World
-  first : ComesTo w es mid
-  second : ComesTo mid fs v
-
-parted : (es fs : List Entry) {gs : List Entry} {w v : World} → ComesTo w gs v → gs ≡ es ++ fs → Parted es fs w v
-parted [] fs {w = w} {v = v} c e = record { mid = w; first = replay.nothing; second = subst (λ k. ComesTo w k v) e c }
-parted (x ∷ es) fs replay.nothing e = absurd (cc)
-parted (x ∷ es) fs (fetches i h a p c) e = let s = parted (x ∷ es) fs c e in record { mid = s.mid; first = fetches i h a p s.first; second = s.second }
-parted (x ∷ es) fs (happens {es = rest} y l is p c) e =
-    let same : y ≡ x = cc in
-    let left : rest ≡ es ++ fs = cc in
-    let s = parted es fs c left in
-    record { mid = s.mid; first = happens x l (subst (λ z. IsEntryOf z l) same is) p s.first; second = s.second }
-parted (x ∷ es) fs {w} (spends {u} {es = rest} y n is p c) e =
-    let same : y ≡ x = cc in
-    let left : rest ≡ es ++ fs = cc in
-    let s = parted es fs c left in
-    let is_spent = subst (λ (z : Entry). z.deed ≡ deed.Spend n) same is in
-    let spent = subst (λ (z : Entry). Spends z.node z.hash n w u) same p in
-    record { mid = s.mid; first = spends x n is_spent spent s.first; second = s.second }
-
-comes_run : {w v : World} {es : List Entry} → ComesTo w es v → (word : List Letter) × Run IsOwnPart w word v
-comes_run replay.nothing = ([], done)
-comes_run (fetches i h a p c) = let r = comes_run c in (letter.Fetch i h a ∷ r.0, next p r.1)
-comes_run (happens e l is p c) = let r = comes_run c in (l ∷ r.0, next p r.1)
-comes_run (spends {w} {u} e n is s c) =
-    let x = spent_by_locks s in
-    let r = comes_run c in (x.word ++ r.0, both x.run r.1)
-
-comes_keep : {w v : World} {es : List Entry} → ComesTo w es v → KeepsAgreement w v
-comes_keep c = keeps_along own_keeps (comes_run c).1
 
 -- ---- a factory that stands
 
@@ -143,9 +110,6 @@ word_stands : (f : Registered) (word : List Letter) {w v : World} → Run IsOwnP
 word_stands f [] done spares old is = is
 word_stands f (l ∷ word) {w} (next {mid} p r) spares old is = word_stands f word r spares.1 (own_keeps w l mid p old).0 (part_stands f l p spares.0 old is)
 
-spent_keeps : {i n : ℕ} {h : ServiceHash} {w v : World} → Spends i h n w v → KeepsAgreement w v
-spent_keeps s = keeps_along own_keeps (spent_by_locks s).run
-
 spent_stands : (f : Registered) {i n : ℕ} {h : ServiceHash} {w v : World} → Spends i h n w v → Agrees w → Stands w f → Stands v f
 spent_stands f {i} {n} {h} s old is = let x = spent_by_locks s in word_stands f x.word x.run (each_as (LocksOrGivesUp i h) (Spares f) (lock_spares f i h) x.word x.locks) old is
 
@@ -158,6 +122,19 @@ comes_stands f (x ∷ es) {w} (happens {u} e l granted p c) others old is =
     comes_stands f es c others.1 (own_keeps w l u p old).0 (part_stands f l p (entry_spares f e.node e.hash e.deed l granted others.0) old is)
 comes_stands f (x ∷ es) {w} (spends {u} e n is s c) others old standing =
     comes_stands f es c others.1 (spent_keeps s old).0 (spent_stands f s old standing)
+
+each_back : {A : Type 0} (P : A → Type 0) (xs ys : List A) → Each P (xs ++ ys) → Each P ys
+each_back P [] ys e = e
+each_back P (x ∷ xs) ys e = each_back P xs ys e.1
+
+by_stands : (f : Registered) {es : List Entry} {w v : World} → GoesOnBy es w v → AllSpare f es → Stands w f → Stands v f
+by_stands f {es} k spared is = comes_stands f es k.comes spared k.agrees (same_stands f k.same is)
+
+goes_on_stands : (f : Registered) {es : List Entry} {w v : World} → GoesOn es w v → AllSpare f es → Stands w f → Stands v f
+goes_on_stands f (at_once k) spared is = by_stands f k spared is
+goes_on_stands f (across xs ys u parts x y) spared is =
+    let each = subst (AllSpare f) parts spared in
+    by_stands f y (each_back (λ e. e ≢ release_of f) xs ys each) (by_stands f x (each_front (λ e. e ≢ release_of f) xs ys each) is)
 
 -- entries of other nodes don't release it
 others_spare : (nodes : List ℕ) (f : Registered) → is_own nodes f.node ≡ true → (es : List Entry) → AreOfOthers nodes es → AllSpare f es
@@ -213,35 +190,85 @@ cons_distinct None ns f all = all
 cons_distinct (Some m) ns f all = IsDistinct-cons nat_eq m ns (f m refl) all
 
 -- Nobody publishes it again.
-never_again : (n : ℕ) (es : List Entry) {w v : World} → ComesTo w es v → Agrees w → IsUsed w n → AllByRecursion (λ m. nat_eq n m ≡ false) (published_numbers es)
-never_again n es replay.nothing old used = tt
-never_again n es {w} (fetches {u} i h a p c) old used =
-    let kept = own_keeps w (letter.Fetch i h a) u p old in never_again n es c kept.0 (used_later n kept.1 used)
-never_again n (y ∷ es) {w} (happens {u} e l granted p c) old used =
+never_again : (n : ℕ) (es fs : List Entry) {w v : World} → ComesTo w es v → Agrees w → (IsUsed v n → AllByRecursion (λ m. nat_eq n m ≡ false) (published_numbers fs)) → IsUsed w n → AllByRecursion (λ m. nat_eq n m ≡ false) (published_numbers (es ++ fs))
+never_again n es fs replay.nothing old behind used = behind used
+never_again n es fs {w} (fetches {u} i h a p c) old behind used =
+    let kept = own_keeps w (letter.Fetch i h a) u p old in never_again n es fs c kept.0 behind (used_later n kept.1 used)
+never_again n (y ∷ es) fs {w} (happens {u} e l granted p c) old behind used =
     let kept = own_keeps w l u p old in
-    cons_apart n (published_number e.deed) (published_numbers es) (λ m is.
+    cons_apart n (published_number e.deed) (published_numbers (es ++ fs)) (λ m is.
     let x = publishes e.node e.hash e.deed l m granted is in
     let locked = publish_locked w u e.node e.hash m x.0 m (subst (λ k. IsOwnPart w k u) x.1 p) old in
-    other_number n m (λ same. used.1 e.hash (locked ∙ ap (λ k. Some (row.Locked k)) (sym same)))) (never_again n es c kept.0 (used_later n kept.1 used))
-never_again n (y ∷ es) {w} (spends {u} e m is s c) old used =
+    other_number n m (λ same. used.1 e.hash (locked ∙ ap (λ k. Some (row.Locked k)) (sym same)))) (never_again n es fs c kept.0 behind (used_later n kept.1 used))
+never_again n (y ∷ es) fs {w} (spends {u} e m is s c) old behind used =
     let kept = spent_keeps s old in
     let none : published_number e.deed ≡ None = ap published_number is in
-    subst (λ o. AllByRecursion (λ k. nat_eq n k ≡ false) (cons_option o (published_numbers es))) (sym none) (never_again n es c kept.0 (used_later n kept.1 used))
+    subst (λ o. AllByRecursion (λ k. nat_eq n k ≡ false) (cons_option o (published_numbers (es ++ fs)))) (sym none) (never_again n es fs c kept.0 behind (used_later n kept.1 used))
 
-each_once : (es : List Entry) {w v : World} → ComesTo w es v → Agrees w → IsDistinct nat_eq (published_numbers es)
+-- No number behind is used at the end, and there each is published once.
+record OnceBehind (v : World) (fs : List Entry) : Type 0 where
+  once : IsDistinct nat_eq (published_numbers fs)
+  apart : (n : ℕ) → IsUsed v n → AllByRecursion (λ m. nat_eq n m ≡ false) (published_numbers fs)
+
+each_once : (es fs : List Entry) {w v : World} → ComesTo w es v → Agrees w → OnceBehind v fs → IsDistinct nat_eq (published_numbers (es ++ fs))
 unfolding IsDistinct
-each_once es replay.nothing old = tt
-each_once es {w} (fetches {u} i h a p c) old = each_once es c (own_keeps w (letter.Fetch i h a) u p old).0
-each_once (y ∷ es) {w} (happens {u} e l granted p c) old =
+each_once es fs replay.nothing old behind = behind.once
+each_once es fs {w} (fetches {u} i h a p c) old behind = each_once es fs c (own_keeps w (letter.Fetch i h a) u p old).0 behind
+each_once (y ∷ es) fs {w} (happens {u} e l granted p c) old behind =
     let kept = own_keeps w l u p old in
-    cons_distinct (published_number e.deed) (published_numbers es) (λ m is.
+    cons_distinct (published_number e.deed) (published_numbers (es ++ fs)) (λ m is.
     let x = publishes e.node e.hash e.deed l m granted is in
-    never_again m es c kept.0 (publish_uses w u e.node e.hash m x.0 m (subst (λ k. IsOwnPart w k u) x.1 p) old)) (each_once es c kept.0)
-each_once (y ∷ es) {w} (spends {u} e m is s c) old =
+    never_again m es fs c kept.0 (behind.apart m) (publish_uses w u e.node e.hash m x.0 m (subst (λ k. IsOwnPart w k u) x.1 p) old)) (each_once es fs c kept.0 behind)
+each_once (y ∷ es) fs {w} (spends {u} e m is s c) old behind =
     let none : published_number e.deed ≡ None = ap published_number is in
-    subst (λ o. IsDistinct nat_eq (cons_option o (published_numbers es))) (sym none) (each_once es c (spent_keeps s old).0)
+    subst (λ o. IsDistinct nat_eq (cons_option o (published_numbers (es ++ fs)))) (sym none) (each_once es fs c (spent_keeps s old).0 behind)
+
+none_behind : (v : World) → OnceBehind v []
+unfolding IsDistinct
+none_behind v = record { once = tt; apart = λ n used. tt }
+
+used_same : {w v : World} (n : ℕ) → IsSameButRead w v → IsUsed w n → IsUsed v n
+used_same {w} {v} n s used = (subst (λ k. n < k) (sym s.counter) used.0, λ h. subst (λ m. map.get m h ≢ Some (row.Locked n)) (sym s.rows) (used.1 h))
+
+-- what entries publish that come to a world
+once_behind : {w v : World} (es : List Entry) → ComesTo w es v → Agrees w → OnceBehind w es
+once_behind {w} {v} es c old = record {
+  once = subst (λ xs. IsDistinct nat_eq (published_numbers xs)) (append-nil es) (each_once es [] c old (none_behind v));
+  apart = λ n used. subst (λ xs. AllByRecursion (λ m. nat_eq n m ≡ false) (published_numbers xs)) (append-nil es) (never_again n es [] c old (λ _. tt) used);
+}
+
+same_behind : {w v : World} {es : List Entry} → IsSameButRead w v → OnceBehind v es → OnceBehind w es
+same_behind s x = record { once = x.once; apart = λ n used. x.apart n (used_same n s used) }
+
+amounts_once : {n : ℕ} {es : List Entry} {w : World} → AmountsTo n es w → IsDistinct nat_eq (published_numbers es)
+amounts_once {n} x =
+    subst (λ xs. IsDistinct nat_eq (published_numbers xs)) (sym x.parts)
+    (each_once x.front x.rest x.comes (empty_agrees n) (same_behind x.same (once_behind x.rest x.goes_on x.agrees)))
 
 -- ---- one description
+
+-- what goes on from a world that is the same but for who has only read
+later_same : {u w v : World} → IsSameButRead u w → Later w v → Later u v
+later_same {u} {w} {v} s x = record {
+  counter = subst (λ k. k ≤ v.counter) s.counter x.counter;
+  rows = λ h. subst (λ k. LaterAt k (row_of u h) (row_of v h)) s.counter (subst (λ m. LaterAt w.counter (map.get m h) (row_of v h)) s.rows (x.rows h));
+}
+
+-- A world that goes on from another is later than one that is the same as that, but for who has only read.
+record LaterThan (w v : World) : Type 0 where
+  from : World
+  same : IsSameButRead w from
+  agrees : Agrees from
+  later : Later from v
+
+goes_later : {es : List Entry} {w v : World} → GoesOn es w v → LaterThan w v
+goes_later (at_once k) = record { from = k.from; same = k.same; agrees = k.agrees; later = (comes_keep k.comes k.agrees).1 }
+goes_later {v} (across es fs u parts x y) = record {
+  from = x.from;
+  same = x.same;
+  agrees = x.agrees;
+  later = later_trans x.from u v (x.agrees).everywhere (comes_keep x.comes x.agrees).1 (later_same y.same (comes_keep y.comes y.agrees).1);
+}
 
 later_description : {w v : World} (f g : Registered) → Later w v → Stands w f → Stands v g → f.description.hash ≡ g.description.hash → f.number ≡ g.number → f.description ≡ g.description
 later_description {w} {v} f g later s t hash number =
@@ -290,50 +317,19 @@ stand_few {w} f nodes old is apart all =
     let limit = ap (λ (z : Description). max_nodes_of z.pattern) same in
     grind (arith, few, count, limit)
 
--- ---- fronts of one list
-
--- one front is a front of the other
-record IsFrontOf (es r fs s : List Entry) : Type 0 where
-  more : List Entry
-  front : es ++ more ≡ fs
-  rest : r ≡ more ++ s
-
-fronts : (es r fs s : List Entry) → es ++ r ≡ fs ++ s → IsFrontOf es r fs s ⊎ IsFrontOf fs s es r
-fronts [] r fs s e = inl (record { more = fs; front = refl; rest = e })
-fronts (x ∷ es) r [] s e = inr (record { more = x ∷ es; front = refl; rest = sym e })
-fronts (x ∷ es) r (y ∷ fs) s e =
-    let head : x ≡ y = cc in
-    let tail : es ++ r ≡ fs ++ s = cc in
-    elim (fronts es r fs s tail) [
-      | inl k ↦ inl (record { more = k.more; front = λ i. head i ∷ k.front i; rest = k.rest })
-      | inr k ↦ inr (record { more = k.more; front = λ i. sym head i ∷ k.front i; rest = k.rest })
-    ]
-
 module _ {L : Type 0} (contents : L → Option Contents) where
   pub agrees_in_each : AgreesInEach contents
-  agrees_in_each counter es b t = (comes_keep (is_what_it_comes_to contents counter es b t) (empty_agrees counter)).0
+  agrees_in_each counter es b t = amounts_agree (is_what_it_comes_to contents counter es b t)
 
   pub goes_on : GoesOnFromOthers contents
   goes_on counter es more b c t u =
-      let empty = empty_world counter in
-      let s = parted es more (is_what_it_comes_to contents counter (es ++ more) c u) refl in
-      let r = comes_run s.second in
-      record {
-        from = s.mid;
-        same = one_world empty empty b.world s.mid es (same_itself empty) (is_what_it_comes_to contents counter es b t) s.first;
-        agrees = (comes_keep s.first (empty_agrees counter)).0;
-        comes = s.second;
-        word = r.0;
-        run = r.1;
-      }
+      amounts_go_on es more (is_what_it_comes_to contents counter es b t) (is_what_it_comes_to contents counter (es ++ more) c u)
 
   pub publishes_once : PublishesOnce contents
-  publishes_once counter es b t = each_once es (is_what_it_comes_to contents counter es b t) (empty_agrees counter)
+  publishes_once counter es b t = amounts_once (is_what_it_comes_to contents counter es b t)
 
   pub stands_in_others : StandsInOthers contents
-  stands_in_others counter es more b c f t u unreleased is =
-      let k = goes_on counter es more b c t u in
-      comes_stands f more k.comes unreleased k.agrees (same_stands f k.same is)
+  stands_in_others counter es more b c f t u unreleased is = goes_on_stands f (goes_on counter es more b c t u) unreleased is
 
   pub own_stands_in_others : OwnStandsInOthers contents
   own_stands_in_others counter es more b c f t u others own is = stands_in_others counter es more b c f t u (others_spare b.nodes f own more others) is
@@ -348,7 +344,8 @@ module _ {L : Type 0} (contents : L → Option Contents) where
       → f.description.hash ≡ g.description.hash → f.number ≡ g.number → f.description ≡ g.description
   ahead_description counter es more fs b c f g whole t u s v hash number =
       let k = goes_on counter es more b c t (subst (λ xs. HasTaken contents counter xs c) (sym whole) u) in
-      later_description f g (comes_keep k.comes k.agrees).1 (same_stands f k.same s) v hash number
+      let l = goes_later k in
+      later_description f g l.later (same_stands f l.same s) v hash number
 
   pub carries_one : CarriesOneDescription contents
   carries_one counter entries b c f g p q s t hash number = elim (fronts p.front p.rest q.front q.rest (p.whole ∙ sym q.whole)) [
@@ -412,3 +409,43 @@ module _ {L : Type 0} (contents : L → Option Contents) where
       let b = l.first in
       stand_few f nodes (agrees_in_each counter (b.read).front b.process (b.read).taken) (stands_there counter entries f s b l.behind) apart
       (each_as (PartBehind counter entries f b) (HasFactoryOf (b.process).world f) (part_there counter entries f b) nodes l.parts)
+
+  -- ---- across compactions
+
+  -- It goes on leg by leg.
+  data GoesBy : List Entry → World → World → Type 0 where
+    leg : {es : List Entry} {w v : World} → GoesOn es w v → GoesBy es w v
+    legs : (es fs : List Entry) {u w v : World} → GoesBy es u w → GoesBy fs w v → GoesBy (es ++ fs) u v
+
+  reads_by : {more : List Entry} {b c : JournalState L} → ReadsOn contents more b c → GoesBy more b.world c.world
+  reads_by {b = b} {c = c} (here counter entries more t u) = leg (goes_on counter entries more b c t u)
+  reads_by {b = b} {c = c} (compacted counter begins entries snapshot more t stands u) =
+      leg (amounts_go_on snapshot more (stands_amount stands (agrees_in_each counter entries b t)) (is_what_it_comes_to contents begins (snapshot ++ more) c u))
+  reads_by (then first second x y) = legs first second (reads_by x) (reads_by y)
+
+  legs_stand : (f : Registered) {es : List Entry} {w v : World} → GoesBy es w v → AllSpare f es → Stands w f → Stands v f
+  legs_stand f (leg k) spared is = goes_on_stands f k spared is
+  legs_stand f (legs es fs x y) spared is =
+      legs_stand f y (each_back (λ e. e ≢ release_of f) es fs spared) (legs_stand f x (each_front (λ e. e ≢ release_of f) es fs spared) is)
+
+  legs_later : {es : List Entry} {w v : World} → GoesBy es w v → LaterThan w v
+  legs_later (leg k) = goes_later k
+  legs_later {v = v} (legs es fs {w = u} x y) =
+      let a = legs_later x in
+      let b = legs_later y in
+      record { from = a.from; same = a.same; agrees = a.agrees; later = later_trans a.from u v (a.agrees).everywhere a.later (later_same b.same b.later) }
+
+  pub stands_across : StandsAcross contents
+  stands_across more b c f r spared is = legs_stand f (reads_by r) spared is
+
+  pub carries_across : CarriesOneAcross contents
+  carries_across more b c f g r is also hash number =
+      let l = legs_later (reads_by r) in
+      later_description f g l.later (same_stands f l.same is) also hash number
+
+  part_before : (c : JournalState L) (f : Registered) (i : ℕ) → HasPartBefore contents c f i → HasFactoryOf c.world f i
+  part_before c f i x = (x.factory, x.node, x.hash, x.number, stands_across x.more x.process c x.factory x.reads_on x.unreleased x.stands)
+
+  pub few_across : FewAcross contents
+  few_across c f nodes agrees is apart all =
+      stand_few f nodes agrees is apart (each_as (HasPartBefore contents c f) (HasFactoryOf c.world f) (part_before c f) nodes all)

@@ -5,24 +5,30 @@ use Rattle.iceoryx2_description.specs.declared.description.ServiceHash.{ServiceH
 use Rattle.iceoryx2_access.specs.Letter.{Letter}
 use Rattle.iceoryx2_access.specs.Letter as letter
 use Rattle.iceoryx2_access.specs.Run.{Run, done, next}
-use Rattle.iceoryx2_world.specs.World.{World}
+use Rattle.iceoryx2_world.specs.World.{World, empty_world}
+use Rattle.iceoryx2_world.specs.Across.{Agrees}
 use Rattle.iceoryx2_world.specs.Access.{IsOwnPart}
+use Rattle.iceoryx2_world.proofs.agreement.Empty.{empty_agrees}
 use Rattle.iceoryx2_log.specs.declared.entry.Deed.{Deed}
 use Rattle.iceoryx2_log.specs.declared.entry.Deed.TheVariants as deed
 use Rattle.iceoryx2_log.specs.declared.entry.Entry.{Entry}
 use Rattle.iceoryx2_log.specs.Log.{Contents, WhereKnown, Appends}
 use Rattle.iceoryx2_journal.specs.declared.taking.Stop.{Stop}
 use Rattle.iceoryx2_journal.specs.Follow.{IsFollowed, granted, spent, Prepares}
-use Rattle.iceoryx2_journal.specs.Taking.{Takes, TakesOver, Stops, unread, starved, own, disagrees, astray, ends}
+use Rattle.iceoryx2_journal.specs.Snapshot.{IsSnapshot, StandsFor}
+use Rattle.iceoryx2_journal.specs.Taking.{Arrives, Comes, Reaches, Stops, unread, starved, own, disagrees, astray, ends}
+use Rattle.iceoryx2_journal.specs.Taking as taking
 use Rattle.iceoryx2_journal.specs.Logged.{ReadsAtMost, IsLoggedPart, unwritten, written, declined}
 use Rattle.iceoryx2_journal.specs.Journal.{JournalState, TakesAll, Fails, Begins, barred, stopped, IsJournalAccess, fails, acts}
 use Rattle.iceoryx2_journal.specs.Laws.{ReplaysTheLog, IsWhatTheLogComesTo}
-use Rattle.iceoryx2_journal.specs.Replay.{ComesTo, nothing, fetches, happens, spends, Moves, Replays, Lives, begun, accesses, refreshes, cleans, adopts}
+use Rattle.iceoryx2_journal.specs.Replay.{ComesTo, nothing, fetches, happens, spends, Moves, Settles, Goes, stays, settles, strays, AmountsTo, Replays, Lives, begun, accesses, refreshes, cleans, adopts}
 use Rattle.iceoryx2_journal.specs.Cleaning.{Adopts, CleansBy}
 use Rattle.iceoryx2_journal.specs.declared.cleaning.AdoptError.{AdoptError}
 use Rattle.iceoryx2_journal.specs.declared.cleaning.AdoptError.TheVariants as adopting
 use Rattle.iceoryx2_journal.proofs.Logs.{known_map, known_both, known_same}
 use Rattle.iceoryx2_journal.proofs.Runs.{was_going}
+use Rattle.iceoryx2_journal.proofs.ComingTo.{comes_keep}
+use Rattle.iceoryx2_journal.proofs.SameWorlds.{same_itself}
 
 -- ---- what entries make of a world
 
@@ -53,7 +59,7 @@ followed_comes : {w v : World} (e : Entry) → IsFollowed w e v → ComesTo w (e
 followed_comes e (granted u l p is part) = comes_both (prepared e.node e.hash e.deed p) (happens e l is part nothing)
 followed_comes e (spent n is s) = spends e n is s nothing
 
-entries_come : {w v : World} {es : List Entry} → Run IsFollowed w es v → ComesTo w es v
+pub entries_come : {w v : World} {es : List Entry} → Run IsFollowed w es v → ComesTo w es v
 entries_come done = nothing
 entries_come (next {letter} h r) = comes_both (followed_comes letter h) (entries_come r)
 
@@ -63,23 +69,82 @@ read_comes l p reads = comes_same reads
 
 -- ---- what was taken over or appended
 
-moved_not : (c d : Option Contents) → d ≡ c → WhereKnown (Moves []) c d
-moved_not = known_same (Moves []) (λ c. sym (append-nil c.taken))
+moved_not : (c d : Contents) → d ≡ c → Moves [] c d
+moved_not c d same = record { begins = ap (λ (x : Contents). x.begins) same; taken = ap (λ (x : Contents). x.taken) same ∙ sym (append-nil c.taken) }
 
-moved_over : (es : List Entry) (c d : Option Contents) → WhereKnown (Takes es) c d → WhereKnown (Moves es) c d
-moved_over es = known_map (Takes es) (Moves es) (λ c d t. t.taken)
+moved_both : (es fs : List Entry) (b c d : Contents) → Moves es b c → Moves fs c d → Moves (es ++ fs) b d
+moved_both es fs b c d x y = record {
+  begins = y.begins ∙ x.begins;
+  taken = y.taken ∙ ap (λ t. t ++ fs) x.taken ∙ append_assoc b.taken es fs;
+}
 
-moved_one : (e : Entry) (c d : Option Contents) → WhereKnown (Appends e) c d → WhereKnown (Moves (e ∷ [])) c d
-moved_one e = known_map (Appends e) (Moves (e ∷ [])) (λ c d a. a.taken)
+-- it settles, and others came before
+settles_later : {u w v : World} {es fs : List Entry} {d : Contents} → ComesTo u es w → Settles w fs v d → Settles u (es ++ fs) v d
+settles_later {es} c x = record {
+  snapshot = x.snapshot;
+  before = es ++ x.before;
+  since = x.since;
+  parts = ap (λ (fs : List Entry). es ++ fs) x.parts ∙ sym (append_assoc es x.before x.since);
+  taken = x.taken;
+  at = x.at;
+  leads = comes_both c x.leads;
+  goes_on = x.goes_on;
+  stands_for = x.stands_for;
+}
 
-moved_both : (es fs : List Entry) (b c d : Option Contents) → WhereKnown (Moves es) b c → WhereKnown (Moves fs) c d → WhereKnown (Moves (es ++ fs)) b d
-moved_both es fs = known_both (Moves es) (Moves fs) (Moves (es ++ fs)) (λ b c d x y. y ∙ ap (λ t. t ++ fs) x ∙ append_assoc b.taken es fs)
+-- it settled, and more moved there
+settled_more : {u w v : World} {es fs : List Entry} {c d : Contents} → Settles u es w c → ComesTo w fs v → Moves fs c d → Settles u (es ++ fs) v d
+settled_more {es} {fs} x r y = record {
+  snapshot = x.snapshot;
+  before = x.before;
+  since = x.since ++ fs;
+  parts = ap (λ (t : List Entry). t ++ fs) x.parts ∙ append_assoc x.before x.since fs;
+  taken = y.taken ∙ ap (λ (t : List Entry). t ++ fs) x.taken ∙ append_assoc x.snapshot x.since fs;
+  at = x.at;
+  leads = x.leads;
+  goes_on = comes_both x.goes_on r;
+  stands_for = subst (λ (n : ℕ). StandsFor n x.snapshot x.at) (sym y.begins) x.stands_for;
+}
 
-moved_from : (es : List Entry) (x y : Option Contents) (c d : Contents) → x ≡ Some c → y ≡ Some d → c.taken ≡ [] → WhereKnown (Moves es) x y → d.taken ≡ es
-moved_from es x y c d old new none m =
-    let k = subst (λ z. WhereKnown (Moves es) z y) old m in
-    let n : d.taken ≡ c.taken ++ es = subst (λ z. WhereKnown (Moves es) (Some c) z) new k in
-    n ∙ ap (λ t. t ++ es) none
+settled_or_lost : {p : Bool} (q : Bool) {u v : World} {es : List Entry} {b d : Contents} → Settles u es v d → Goes p q u es v b d
+settled_or_lost false x = settles refl x
+settled_or_lost true x = strays refl
+
+goes_both : (p q r : Bool) (u w v : World) (es fs : List Entry) → ComesTo u es w → ComesTo w fs v → (b c d : Contents) → Goes p q u es w b c → Goes q r w fs v c d → Goes p r u (es ++ fs) v b d
+goes_both p q r u w v es fs f g b c d x (strays lost) = strays lost
+goes_both p q r u w v es fs f g b c d x (settles here y) = settles here (settles_later f y)
+goes_both p q r u w v es fs f g b c d (stays was x) (stays is y) = stays was (moved_both es fs b c d x y)
+goes_both p q r u w v es fs f g b c d (settles here x) (stays is y) = settled_or_lost r (settled_more x g y)
+goes_both p q r u w v es fs f g b c d (strays lost) (stays is y) = absurd (cc)
+
+-- what doesn't move anything, whether it is lost or not
+goes_not : (p : Bool) (w v : World) (c d : Contents) → d ≡ c → Goes p p w [] v c d
+goes_not false w v c d same = stays refl (moved_not c d same)
+goes_not true w v c d same = strays refl
+
+known_not : (p q : Bool) → q ≡ p → (w v : World) (c d : Option Contents) → d ≡ c → WhereKnown (Goes p q w [] v) c d
+known_not p q kept w v c d same =
+    subst (λ k. WhereKnown (Goes p k w [] v) c d) (sym kept)
+    (known_same (Goes p p w [] v) (λ c. goes_not p w v c c refl) c d same)
+
+-- What was taken over, and then a world to which no entry comes.
+arrival_settles : {w u v : World} {es : List Entry} {c : Contents} → Arrives w es u c → ComesTo u [] v → Settles w es v c
+arrival_settles {w} {v = v} x c = record {
+  snapshot = x.snapshot;
+  before = x.before;
+  since = x.since;
+  parts = x.parts;
+  taken = x.taken;
+  at = x.at;
+  leads = entries_come x.leads;
+  goes_on = subst (λ es. ComesTo x.at es v) (append-nil x.since) (comes_both (entries_come x.goes_on) c);
+  stands_for = x.stands_for;
+}
+
+reached_goes : (p q : Bool) (w u v : World) (es : List Entry) → ComesTo u [] v → (c d : Contents) → Comes p q w es u c d → Goes p q w es v c d
+reached_goes p q w u v es k c d (taking.stays was t) = stays was (record { begins = t.begins; taken = t.taken })
+reached_goes p q w u v es k c d (taking.arrives here x) = settles here (arrival_settles x k)
+reached_goes p q w u v es k c d (taking.strays lost) = strays lost
 
 -- What isn't taken over leaves a world to which no entry comes, where the journal isn't over then.
 stops_come : {nodes : List ℕ} {c : Option Contents} {s : Stop} {w v : World} (over : Bool) → over ≡ false → over ≡ ends s → Stops nodes c w s v → ComesTo w [] v
@@ -94,69 +159,109 @@ module _ {L : Type 0} {contents : L → Option Contents} where
   replays_both {a} {b} {c} x y = record {
     entries = x.entries ++ y.entries;
     comes = comes_both x.comes y.comes;
-    taken = moved_both x.entries y.entries (contents a.log) (contents b.log) (contents c.log) x.taken y.taken;
+    taken = known_both (Goes a.is_lost b.is_lost a.world x.entries b.world) (Goes b.is_lost c.is_lost b.world y.entries c.world)
+        (Goes a.is_lost c.is_lost a.world (x.entries ++ y.entries) c.world)
+        (goes_both a.is_lost b.is_lost c.is_lost a.world b.world c.world x.entries y.entries x.comes y.comes)
+        (contents a.log) (contents b.log) (contents c.log) x.taken y.taken;
   }
 
-  replays_none : {a b : JournalState L} → ComesTo a.world [] b.world → contents b.log ≡ contents a.log → Replays contents a b
-  replays_none {a} {b} comes same = record { entries = []; comes = comes; taken = moved_not (contents a.log) (contents b.log) same }
+  replays_none : {a b : JournalState L} → ComesTo a.world [] b.world → contents b.log ≡ contents a.log → b.is_lost ≡ a.is_lost → Replays contents a b
+  replays_none {a} {b} comes same kept =
+      record { entries = []; comes = comes; taken = known_not a.is_lost b.is_lost kept a.world b.world (contents a.log) (contents b.log) same }
 
-  replays_taken : {a b : JournalState L} {v : World} → TakesOver a.nodes a.world v (contents a.log) (contents b.log) → ComesTo v [] b.world → Replays contents a b
-  replays_taken {a} {b} t comes = record {
+  replays_taken : {a b : JournalState L} {v : World} → Reaches a.nodes a.is_lost b.is_lost a.world v (contents a.log) (contents b.log) → ComesTo v [] b.world → Replays contents a b
+  replays_taken {a} {b} {v} t comes = record {
     entries = t.entries;
     comes = subst (λ es. ComesTo a.world es b.world) (append-nil t.entries) (comes_both (entries_come t.followed) comes);
-    taken = moved_over t.entries (contents a.log) (contents b.log) t.taken;
+    taken = known_map (Comes a.is_lost b.is_lost a.world t.entries v) (Goes a.is_lost b.is_lost a.world t.entries b.world)
+        (reached_goes a.is_lost b.is_lost a.world v b.world t.entries comes) (contents a.log) (contents b.log) t.taken;
   }
 
-  part_replays : {a b : JournalState L} {l : Letter} → IsLoggedPart contents a.world l b.world a.log b.log → Replays contents a b
-  part_replays {l} (unwritten isnt part reads kept) = replays_none (read_comes l part reads) kept
-  part_replays {a} {b} {l} (written e holds part is_entry appends) = record {
+  part_replays : {a b : JournalState L} {l : Letter} → a.is_lost ≡ false → b.is_lost ≡ a.is_lost → IsLoggedPart contents a.world l b.world a.log b.log → Replays contents a b
+  part_replays {l} here lost (unwritten isnt part reads kept) = replays_none (read_comes l part reads) kept lost
+  part_replays {a} {b} {l} here lost (written e holds part is_entry appends) = record {
     entries = e ∷ [];
     comes = happens e l is_entry part nothing;
-    taken = moved_one e (contents a.log) (contents b.log) appends;
+    taken = known_map (Appends e) (Goes a.is_lost b.is_lost a.world (e ∷ []) b.world)
+        (λ c d x. stays here (record { begins = x.begins; taken = x.taken })) (contents a.log) (contents b.log) appends;
   }
-  part_replays (declined fault same kept) = replays_none (comes_same same) kept
+  part_replays here lost (declined fault same kept) = replays_none (comes_same same) kept lost
 
   taken_goes : {a b : JournalState L} → TakesAll contents a b → (a.is_over ≡ false) × Replays contents a b
   taken_goes t = (t.was_not_over, replays_taken t.takes nothing)
 
   fails_goes : {mine : Bool} {a b : JournalState L} → b.is_over ≡ false → Fails contents mine a b → (a.is_over ≡ false) × Replays contents a b
   fails_goes going (barred isnt same) =
-      (ap (λ (s : JournalState L). s.is_over) (sym same) ∙ going, replays_none (comes_same (ap (λ (s : JournalState L). s.world) same)) (ap (λ (s : JournalState L). contents s.log) same))
+      (ap (λ (s : JournalState L). s.is_over) (sym same) ∙ going, replays_none (comes_same (ap (λ (s : JournalState L). s.world) same)) (ap (λ (s : JournalState L). contents s.log) same) (ap (λ (s : JournalState L). s.is_lost) same))
   fails_goes {mine} {a} {b} going (stopped w s holds t stops kept over) =
       (was_going mine a.is_over holds, replays_taken t (stops_come b.is_over going over stops))
 
   -- An access that leaves it going found it so.
   access_goes : {a b : JournalState L} {l : Letter} → b.is_over ≡ false → IsJournalAccess contents a l b → (a.is_over ≡ false) × Replays contents a b
   access_goes going (fails fault f) = fails_goes going f
-  access_goes going (acts mid mine all part nodes over) =
-      (all.was_not_over, replays_both (replays_taken {b = mid} all.takes nothing) (part_replays part))
+  access_goes going (acts mid mine all part nodes over lost) =
+      (all.was_not_over, replays_both (replays_taken {b = mid} all.takes nothing) (part_replays all.is_not_lost lost part))
 
   begins_goes : {a b : JournalState L} (has_begun : Bool) → b.is_over ≡ false → Begins contents true has_begun a b → (a.is_over ≡ false) × Replays contents a b
   begins_goes true going t = taken_goes t.1
   begins_goes false going f = fails_goes going f
 
   clean_goes : {i : ℕ} {a b : JournalState L} {l : Letter} → CleansBy contents i a l b → (a.is_over ≡ false) × Replays contents a b
-  clean_goes c = (c.all.was_not_over, replays_both (replays_taken {b = c.mid} c.all.takes nothing) (part_replays c.part))
+  clean_goes c = (c.all.was_not_over, replays_both (replays_taken {b = c.mid} c.all.takes nothing) (part_replays (c.all).is_not_lost c.lost c.part))
 
   adopt_goes : (i : ℕ) {a b : JournalState L} (r : Result (Unit {0}) AdoptError) → b.is_over ≡ false → Adopts contents i r a b → (a.is_over ≡ false) × Replays contents a b
   adopt_goes i (Ok x) going t =
-      (t.1.was_not_over, replays_both (replays_taken {b = t.0} t.1.takes nothing) (replays_none (comes_same (ap (λ (s : JournalState L). s.world) t.2)) t.3))
+      (t.1.was_not_over, replays_both (replays_taken {b = t.0} t.1.takes nothing) (replays_none (comes_same (ap (λ (s : JournalState L). s.world) t.2)) t.3 (ap (λ (s : JournalState L). s.is_lost) t.2)))
   adopt_goes i (Err adopting.OutOfMemory) going t = taken_goes t
   adopt_goes i (Err adopting.Refused) going f = fails_goes going f
 
   -- The world of a journal that is still going is what came of the entries since.
   lives_replays : {a b : JournalState L} → b.is_over ≡ false → Lives contents a b → (a.is_over ≡ false) × Replays contents a b
-  lives_replays going begun = (going, replays_none nothing refl)
+  lives_replays going begun = (going, replays_none nothing refl refl)
   lives_replays going (accesses l so_far h) = let y = access_goes going h in let x = lives_replays y.0 so_far in (x.0, replays_both x.1 y.1)
   lives_replays going (refreshes has_begun so_far h) = let y = begins_goes has_begun going h in let x = lives_replays y.0 so_far in (x.0, replays_both x.1 y.1)
   lives_replays going (cleans i l so_far h) = let y = clean_goes h in let x = lives_replays y.0 so_far in (x.0, replays_both x.1 y.1)
   lives_replays going (adopts i r so_far h) = let y = adopt_goes i r going h in let x = lives_replays y.0 so_far in (x.0, replays_both x.1 y.1)
 
   run_replays : {a b : JournalState L} {word : List Letter} → b.is_over ≡ false → Run (IsJournalAccess contents) a word b → (a.is_over ≡ false) × Replays contents a b
-  run_replays going done = (going, replays_none nothing refl)
+  run_replays going done = (going, replays_none nothing refl refl)
   run_replays going (next h r) =
       let x = run_replays going r in
       let y = access_goes x.0 h in (y.0, replays_both y.1 x.1)
+
+-- ---- what it amounts to
+
+amounts_by : (n : ℕ) (w v : World) (es taken : List Entry) (p q : Bool) (before after : Contents) → w ≡ empty_world before.begins → before.taken ≡ [] → p ≡ false → q ≡ false → after.begins ≡ n → after.taken ≡ taken
+    → ComesTo w es v → Goes p q w es v before after → AmountsTo n taken v
+amounts_by n w v es taken p q before after empty none was is begins has comes (stays here m) =
+    let same : es ≡ taken = sym (m.taken ∙ ap (λ t. t ++ es) none) ∙ has in
+    let start : w ≡ empty_world n = empty ∙ ap (λ k. empty_world k) (sym m.begins ∙ begins) in
+    record {
+      front = [];
+      rest = taken;
+      parts = refl;
+      exact = empty_world n;
+      comes = nothing;
+      at = empty_world n;
+      same = same_itself (empty_world n);
+      agrees = empty_agrees n;
+      goes_on = subst (λ u. ComesTo u taken v) start (subst (λ xs. ComesTo w xs v) same comes);
+    }
+amounts_by n w v es taken p q before after empty none was is begins has comes (settles here x) = record {
+  front = x.snapshot;
+  rest = x.since;
+  parts = sym has ∙ x.taken;
+  exact = (x.stands_for).exact;
+  comes = entries_come (subst (λ k. IsSnapshot k x.snapshot (x.stands_for).exact) begins (x.stands_for).is_snapshot);
+  at = x.at;
+  same = (x.stands_for).same;
+  agrees = (comes_keep x.leads (subst (λ u. Agrees u) (sym empty) (empty_agrees before.begins))).0;
+  goes_on = x.goes_on;
+}
+amounts_by n w v es taken p q before after empty none was is begins has comes (strays lost) = absurd (cc)
+
+from_known : (R : Contents → Contents → Type 0) (x y : Option Contents) (c d : Contents) → x ≡ Some c → y ≡ Some d → WhereKnown R x y → R c d
+from_known R x y c d old new r = subst (λ z. WhereKnown R (Some c) z) new (subst (λ z. WhereKnown R z y) old r)
 
 -- ---- the laws of runs
 
@@ -169,5 +274,5 @@ module _ {L : Type 0} (contents : L → Option Contents) where
       let a = t.start in
       let x = lives_replays t.is_not_over t.lives in
       let r = x.1 in
-      let m = moved_from r.entries (contents a.log) (contents b.log) t.before t.after t.knew t.knows t.had_none r.taken in
-      subst (λ w. ComesTo w es b.world) t.empty (subst (λ x. ComesTo a.world x b.world) (sym m ∙ t.has) r.comes)
+      amounts_by counter a.world b.world r.entries es a.is_lost b.is_lost t.before t.after t.empty t.had_none t.was_not_lost t.is_not_lost t.begins t.has r.comes
+      (from_known (Goes a.is_lost b.is_lost a.world r.entries b.world) (contents a.log) (contents b.log) t.before t.after t.knew t.knows r.taken)

@@ -45,16 +45,16 @@ module _ {L : Type 0} {contents : L → Option Contents} where
   -- An access of a journal is one of its world's, after what others do, or is refused after that.
   pub access : {old new : JournalState L} {l : Letter} → IsJournalAccess contents old l new → After (Others (is_own old.nodes)) (MayRefuse IsOwnPart) old.world l new.world
   access {new} (fails fault f) = record { between = new.world; before = fails_others f; part = inr (fault, refl) }
-  access (acts mid mine all (unwritten isnt part reads kept) nodes over) = record { between = mid.world; before = all_others all; part = inl part }
-  access (acts mid mine all (written e holds part is_entry appends) nodes over) = record { between = mid.world; before = all_others all; part = inl part }
-  access (acts mid mine all (declined fault same kept) nodes over) = record { between = mid.world; before = all_others all; part = inr (fault, same) }
+  access (acts mid mine all (unwritten isnt part reads kept) nodes over lost) = record { between = mid.world; before = all_others all; part = inl part }
+  access (acts mid mine all (written e holds part is_entry appends) nodes over lost) = record { between = mid.world; before = all_others all; part = inl part }
+  access (acts mid mine all (declined fault same kept) nodes over lost) = record { between = mid.world; before = all_others all; part = inr (fault, same) }
 
   pub access_under : {old new : JournalState L} {l : Letter} → IsJournalAccess contents old l new → IsFallibleUnder (is_own old.nodes) old.world l new.world
   access_under {old} {new} {l} h = among_others (is_own old.nodes) old.world l new.world (access h)
 
   pub access_nodes : {old new : JournalState L} {l : Letter} → IsJournalAccess contents old l new → new.nodes ≡ old.nodes
   access_nodes (fails fault f) = fails_nodes f
-  access_nodes (acts mid mine all part nodes over) = nodes ∙ all.nodes
+  access_nodes (acts mid mine all part nodes over lost) = nodes ∙ all.nodes
 
   barred_still : {mine : Bool} {a b : JournalState L} → mine ≡ false → Fails contents mine a b → b ≡ a
   barred_still isnt (barred is same) = same
@@ -66,7 +66,7 @@ module _ {L : Type 0} {contents : L → Option Contents} where
 
   over_access : {a b : JournalState L} {l : Letter} → a.is_over ≡ true → IsJournalAccess contents a l b → IsFault l × (b ≡ a)
   over_access is (fails fault f) = (fault, over_still is f)
-  over_access is (acts mid mine all part nodes over) = let x = all.was_not_over in absurd (cc)
+  over_access is (acts mid mine all part nodes over lost) = let x = all.was_not_over in absurd (cc)
 
 -- ---- the laws of runs
 
@@ -85,7 +85,7 @@ module _ {L : Type 0} (contents : L → Option Contents) where
 
   pub refuses_others : RefusesOtherNodes contents
   refuses_others a b l isnt (fails fault f) = (fault, barred_still isnt f)
-  refuses_others a b l isnt (acts mid mine all part nodes over) = absurd (cc)
+  refuses_others a b l isnt (acts mid mine all part nodes over lost) = absurd (cc)
 
   pub stays_over : StaysOver contents
   stays_over a b [] is done = (tt, refl)

@@ -13,7 +13,7 @@ use Rattle.iceoryx2_world.specs.declared.world.Phase.TheVariants as at
 use Rattle.iceoryx2_world.specs.declared.world.Row.{Row}
 use Rattle.iceoryx2_world.specs.declared.world.Row.TheVariants as row
 use Rattle.iceoryx2_world.specs.Orders.{hash_total, hash_exact}
-use Rattle.iceoryx2_world.specs.World.{World, empty_world, Tickets, row_of, segment_of, phase_of, tag_of, set_to}
+use Rattle.iceoryx2_world.specs.World.{World, Tickets, row_of, segment_of, phase_of, tag_of, set_to}
 use Rattle.iceoryx2_world.specs.Acts as act
 use Rattle.iceoryx2_world.specs.Sets as set
 use Rattle.iceoryx2_world.specs.Steps.{ServiceView, put}
@@ -24,13 +24,11 @@ use Rattle.iceoryx2_table.specs.Spending.{Spends}
 use Rattle.iceoryx2_log.specs.declared.entry.Deed.{Deed}
 use Rattle.iceoryx2_log.specs.declared.entry.Deed.TheVariants as deed
 use Rattle.iceoryx2_log.specs.declared.entry.Entry.{Entry}
-use Rattle.iceoryx2_log.specs.Log.{Contents}
 use Rattle.iceoryx2_journal.specs.Follow.{Grants, IsEntryOf}
 use Rattle.iceoryx2_journal.specs.Replay.{ComesTo, fetches, happens, spends}
 use Rattle.iceoryx2_journal.specs.Replay as replay
 use Rattle.iceoryx2_table.specs.Same.{settled, IsSameButRead}
-use Rattle.iceoryx2_journal.specs.Laws.{OneWorldEach, ShowsOneWorld}
-use Rattle.iceoryx2_journal.proofs.Replaying.{is_what_it_comes_to}
+use Rattle.iceoryx2_journal.specs.Laws.{OneWorldEach}
 use Rattle.iceoryx2_journal.proofs.SameChanges.{view_at, one_change}
 
 -- ---- the relation
@@ -38,7 +36,7 @@ use Rattle.iceoryx2_journal.proofs.SameChanges.{view_at, one_change}
 pub same_itself : (w : World) → IsSameButRead w w
 same_itself w = record { rows = refl; segments = refl; phases = λ p h. refl; tags = refl; tickets = refl; counter = refl }
 
-same_back : {u v : World} → IsSameButRead u v → IsSameButRead v u
+pub same_back : {u v : World} → IsSameButRead u v → IsSameButRead v u
 same_back s = record {
   rows = sym s.rows;
   segments = sym s.segments;
@@ -48,7 +46,7 @@ same_back s = record {
   counter = sym s.counter;
 }
 
-same_then : {u v w : World} → IsSameButRead u v → IsSameButRead v w → IsSameButRead u w
+pub same_then : {u v w : World} → IsSameButRead u v → IsSameButRead v w → IsSameButRead u w
 same_then s t = record {
   rows = t.rows ∙ s.rows;
   segments = t.segments ∙ s.segments;
@@ -236,9 +234,3 @@ one_world u v w x (e ∷ es) s c d =
     let b = headed d in
     one_world a.after b.after w x es
     (same_effects e a.effect b.effect (same_then (same_back a.same) (same_then s b.same))) a.rest b.rest
-
-module _ {L : Type 0} (contents : L → Option Contents) where
-  pub shows_one_world : ShowsOneWorld contents
-  shows_one_world counter es b c p q =
-      let w = empty_world counter in
-      one_world w w b.world c.world es (same_itself w) (is_what_it_comes_to contents counter es b p) (is_what_it_comes_to contents counter es c q)

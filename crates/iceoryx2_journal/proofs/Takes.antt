@@ -2,18 +2,18 @@
 use Rattle.std.proofs.Common.{◌≡◌, ℕ, Bool, false, List, [], ◌∷◌, ◌++◌, Option, sym, ap, subst, ◌∙◌}
 use Rattle.iceoryx2_access.specs.Letter.{Letter, acting_node}
 use Rattle.iceoryx2_access.specs.Run.{Run, done, next, Each}
-use Rattle.iceoryx2_access.proofs.Run.{one, both, each_append}
+use Rattle.iceoryx2_access.proofs.Run.{one, both}
 use Rattle.iceoryx2_world.specs.World.{World}
 use Rattle.iceoryx2_world.specs.Access.{IsOwnPart}
 use Rattle.iceoryx2_world.specs.Interference.{Others, nobody, node_acts}
 use Rattle.iceoryx2_log.specs.declared.entry.Entry.{Entry}
-use Rattle.iceoryx2_log.specs.Log.{Contents, WhereKnown, Grows}
+use Rattle.iceoryx2_log.specs.Log.{Contents}
 use Rattle.iceoryx2_journal.specs.declared.taking.Stop.{Stop}
 use Rattle.iceoryx2_journal.specs.Follow.{IsFollowed, ActsAlone}
 use Rattle.iceoryx2_journal.specs.Taking.{is_own, IsAllTaken, TakesOver, Stops, unread, starved, own, disagrees, astray}
 use Rattle.iceoryx2_journal.specs.Taking.{TakesOne, TakesSome}
 use Rattle.iceoryx2_journal.proofs.Following.{each_more, prepare_acts, followed_acts}
-use Rattle.iceoryx2_journal.proofs.Logs.{taken_not, then_taken, grown}
+use Rattle.iceoryx2_journal.proofs.Logs.{taken_not, then_taken}
 
 pub takes_not : (nodes : List ℕ) (w : World) (c d : Option Contents) → d ≡ c → TakesOver nodes w w c d
 takes_not nodes w c d same = record { entries = []; of_others = tt; followed = done; taken = taken_not c d same }
@@ -24,25 +24,6 @@ takes_one_more {nodes} {c} {d} {f} x y = record {
   of_others = each_more (λ e. is_own nodes e.node ≡ false) x.entries x.of_others y.of_other;
   followed = both x.followed (one y.followed);
   taken = then_taken x.entries (y.entry ∷ []) c d f x.taken y.taken;
-}
-
-pub takes_both : {nodes : List ℕ} {u v : World} {c d f : Option Contents} → WhereKnown Grows c d → TakesOver nodes u v d f → TakesOver nodes u v c f
-takes_both {c} {d} {f} g x = record {
-  entries = x.entries;
-  of_others = x.of_others;
-  followed = x.followed;
-  taken = then_taken [] x.entries c d f (grown c d g) x.taken;
-}
-
-pub same_over : {nodes : List ℕ} {u v : World} {c d f : Option Contents} → f ≡ d → TakesOver nodes u v c d → TakesOver nodes u v c f
-same_over {nodes} {u} {v} {c} same t = subst (λ x. TakesOver nodes u v c x) (sym same) t
-
-pub over_both : {nodes : List ℕ} {u w v : World} {c d f : Option Contents} → TakesOver nodes u w c d → TakesOver nodes w v d f → TakesOver nodes u v c f
-over_both {nodes} {c} {d} {f} x y = record {
-  entries = x.entries ++ y.entries;
-  of_others = each_append (λ e. is_own nodes e.node ≡ false) x.entries y.entries x.of_others y.of_others;
-  followed = both x.followed y.followed;
-  taken = then_taken x.entries y.entries c d f x.taken y.taken;
 }
 
 pub nothing_more : {nodes : List ℕ} {u w v : World} {c d f : Option Contents} → TakesOver nodes u w c d → v ≡ w → f ≡ d → IsAllTaken f → TakesOver nodes u v c f × IsAllTaken f

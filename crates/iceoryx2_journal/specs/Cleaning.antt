@@ -99,6 +99,7 @@ module _ {L : Type 0} (contents : L → Option Contents) (i : ℕ) where
     pub part : IsLoggedPart contents mid.world l new.world mid.log new.log
     pub nodes : new.nodes ≡ mid.nodes
     pub over : new.is_over ≡ mid.is_over
+    pub lost : new.is_lost ≡ mid.is_lost
 
   -- All that others appended is taken over, and the node has nothing.
   abbrev pub FindsNothing : JournalState L → JournalState L → Type 0

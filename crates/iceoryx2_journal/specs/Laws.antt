@@ -3,14 +3,14 @@ use Rattle.std.specs.Prelude.{◌≡◌, ◌⊎◌, ℕ, true, false, List, Opti
 use Rattle.iceoryx2_access.specs.Letter.{Letter}
 use Rattle.iceoryx2_access.specs.MayRefuse.{IsFault, MayRefuse}
 use Rattle.iceoryx2_access.specs.Run.{Run, Each}
-use Rattle.iceoryx2_world.specs.World.{World, empty_world}
+use Rattle.iceoryx2_world.specs.World.{World}
 use Rattle.iceoryx2_world.specs.Access.{IsOwnPart}
 use Rattle.iceoryx2_world.specs.Interference.{Others, After, IsFallibleUnder}
 use Rattle.iceoryx2_log.specs.declared.entry.Entry.{Entry}
 use Rattle.iceoryx2_log.specs.Log.{Contents, WhereKnown}
 use Rattle.iceoryx2_journal.specs.Taking.{is_own, IsAllTaken}
 use Rattle.iceoryx2_journal.specs.Journal.{JournalState, IsJournalAccess, is_mine}
-use Rattle.iceoryx2_journal.specs.Replay.{ComesTo, Replays, StandsOn, HasTaken}
+use Rattle.iceoryx2_journal.specs.Replay.{ComesTo, Replays, Keeps, HasTaken, AmountsTo}
 use Rattle.iceoryx2_table.specs.Same.{IsSameButRead}
 
 -- What worlds come to by the same entries is the same, but for who has only read, where the worlds were.
@@ -49,20 +49,21 @@ module _ {L : Type 0} (contents : L → Option Contents) where
   LeavesNothingUnread = (a b : JournalState L) (l : Letter) → IsJournalAccess contents a l b
       → IsFault l ⊎ IsAllTaken (contents b.log)
 
-  -- Where they are known, no entry goes or changes its place, and what is appended comes after all of them.
+  -- Where they are known, no entry goes or changes its place, and what is appended comes after all of them; or the log
+  -- goes on in another place, where what stands begins with a snapshot.
   abbrev pub KeepsTheLog : Type 0
   KeepsTheLog = (a b : JournalState L) (word : List Letter) → Run (IsJournalAccess contents) a word b
-      → WhereKnown StandsOn (contents a.log) (contents b.log)
+      → WhereKnown (Keeps a.is_lost b.is_lost) (contents a.log) (contents b.log)
 
   -- Until it is over its world is what the entries make of the one before that it has taken over or appended since.
   abbrev pub ReplaysTheLog : Type 0
   ReplaysTheLog = (a b : JournalState L) (word : List Letter) → b.is_over ≡ false
       → Run (IsJournalAccess contents) a word b → Replays contents a b
 
-  -- So from nothing it is what the entries come to that it has taken over or appended.
+  -- So from nothing it is what the entries come to that it has taken over or appended, in whichever place.
   abbrev pub IsWhatTheLogComesTo : Type 0
   IsWhatTheLogComesTo = (counter : ℕ) (es : List Entry) (b : JournalState L) → HasTaken contents counter es b
-      → ComesTo (empty_world counter) es b.world
+      → AmountsTo counter es b.world
 
   -- Two journals that have the same entries show the same world, but for who has only read.
   abbrev pub ShowsOneWorld : Type 0

@@ -16,6 +16,7 @@ use Rattle.iceoryx2_log.specs.declared.entry.Entry.{Entry}
 use Rattle.iceoryx2_log.specs.Log.{Contents}
 use Rattle.iceoryx2_journal.specs.Taking.{is_own}
 use Rattle.iceoryx2_journal.specs.Journal.{JournalState}
+use Rattle.iceoryx2_journal.specs.Snapshot.{StandsFor}
 use Rattle.iceoryx2_journal.specs.Replay.{ComesTo, HasTaken}
 use Rattle.iceoryx2_table.specs.Same.{IsSameButRead}
 
@@ -51,6 +52,13 @@ pub record GoesOnBy (entries : List Entry) (old new : World) : Type 0 where
   pub comes : ComesTo from entries new
   pub word : List Letter
   pub run : Run IsOwnPart from word new
+
+-- The same, at once or across a snapshot that the other has read in place of entries: so far as it goes, and from
+-- there.
+pub data GoesOn (entries : List Entry) (old new : World) : Type 0 where
+  at_once : GoesOnBy entries old new → GoesOn entries old new
+  across : (first second : List Entry) (between : World) → entries ≡ first ++ second → GoesOnBy first old between
+      → GoesOnBy second between new → GoesOn entries old new
 
 module _ {L : Type 0} (contents : L → Option Contents) where
   -- The process has read a front of these entries, and not the rest.
@@ -88,7 +96,7 @@ module _ {L : Type 0} (contents : L → Option Contents) where
   abbrev pub GoesOnFromOthers : Type 0
   GoesOnFromOthers = (counter : ℕ) (entries more : List Entry) (b c : JournalState L)
       → HasTaken contents counter entries b → HasTaken contents counter (entries ++ more) c
-      → GoesOnBy more b.world c.world
+      → GoesOn more b.world c.world
 
   -- No number is published twice in what a process has read.
   abbrev pub PublishesOnce : Type 0
@@ -128,3 +136,47 @@ module _ {L : Type 0} (contents : L → Option Contents) where
   FewHaveAPart = (counter : ℕ) (entries : List Entry) (f : Registered) (nodes : List ℕ)
       → StandsAtTheEnd counter entries f → IsDistinct nat_eq nodes → Each (HasPart counter entries f) nodes
       → length nodes ≤ max_nodes_of f.description.pattern
+
+  -- ---- across compactions
+
+  -- Where another process has read more, in whichever place: entries of one place; or those behind a snapshot that
+  -- stands for this one's world, as one does that it has compacted the log to; or from one process to the next.
+  pub data ReadsOn : List Entry → JournalState L → JournalState L → Type 0 where
+    here : {b c : JournalState L} (counter : ℕ) (entries more : List Entry) → HasTaken contents counter entries b
+        → HasTaken contents counter (entries ++ more) c → ReadsOn more b c
+    compacted : {b c : JournalState L} (counter begins : ℕ) (entries snapshot more : List Entry)
+        → HasTaken contents counter entries b → StandsFor begins snapshot b.world
+        → HasTaken contents begins (snapshot ++ more) c → ReadsOn more b c
+    then : {a b c : JournalState L} (first second : List Entry) → ReadsOn first a b → ReadsOn second b c
+        → ReadsOn (first ++ second) a c
+
+  -- A factory that stands in one process's world stands in that of each that has read more, over any number of
+  -- compactions, unless its ticket is released there.
+  abbrev pub StandsAcross : Type 0
+  StandsAcross = (more : List Entry) (b c : JournalState L) (f : Registered)
+      → ReadsOn more b c → AllSpare f more → Stands b.world f → Stands c.world f
+
+  -- Factories of one service and number carry one description, over any number of compactions.
+  abbrev pub CarriesOneAcross : Type 0
+  CarriesOneAcross = (more : List Entry) (b c : JournalState L) (f g : Registered)
+      → ReadsOn more b c → Stands b.world f → Stands c.world g
+      → f.description.hash ≡ g.description.hash → f.number ≡ g.number → f.description ≡ g.description
+
+  -- The node has a factory of this one's service and number in some process, from which this process has read more
+  -- that doesn't release its ticket.
+  pub record HasPartBefore (c : JournalState L) (f : Registered) (i : ℕ) : Type 0 where
+    pub factory : Registered
+    pub node : factory.node ≡ i
+    pub hash : factory.description.hash ≡ f.description.hash
+    pub number : factory.number ≡ f.number
+    pub process : JournalState L
+    pub more : List Entry
+    pub reads_on : ReadsOn more process c
+    pub unreleased : AllSpare factory more
+    pub stands : Stands process.world factory
+
+  -- Over any number of compactions no more nodes have a factory of one service and number that isn't released than its
+  -- description allows.
+  abbrev pub FewAcross : Type 0
+  FewAcross = (c : JournalState L) (f : Registered) (nodes : List ℕ) → Agrees c.world → Stands c.world f
+      → IsDistinct nat_eq nodes → Each (HasPartBefore c f) nodes → length nodes ≤ max_nodes_of f.description.pattern

@@ -6,11 +6,14 @@ use Rattle.iceoryx2_access.specs.Letter.{Letter}
 use Rattle.iceoryx2_access.specs.Letter as letter
 use Rattle.iceoryx2_world.specs.World.{World, empty_world}
 use Rattle.iceoryx2_world.specs.Access.{IsOwnPart}
+use Rattle.iceoryx2_world.specs.Across.{Agrees}
 use Rattle.iceoryx2_table.specs.Spending.{Spends}
+use Rattle.iceoryx2_table.specs.Same.{IsSameButRead}
 use Rattle.iceoryx2_log.specs.declared.entry.Deed.TheVariants as deed
 use Rattle.iceoryx2_log.specs.declared.entry.Entry.{Entry}
 use Rattle.iceoryx2_log.specs.Log.{Contents, WhereKnown}
 use Rattle.iceoryx2_journal.specs.Follow.{IsEntryOf}
+use Rattle.iceoryx2_journal.specs.Snapshot.{StandsFor}
 use Rattle.iceoryx2_journal.specs.Journal.{JournalState, Begins, IsJournalAccess}
 use Rattle.iceoryx2_journal.specs.Cleaning.{Adopts, CleansBy}
 use Rattle.iceoryx2_journal.specs.declared.cleaning.AdoptError.{AdoptError}
@@ -26,20 +29,56 @@ pub data ComesTo : World → List Entry → World → Type 0 where
   spends : {w u v : World} {es : List Entry} (e : Entry) (n : ℕ)
       → e.deed ≡ deed.Spend n → Spends e.node e.hash n w u → ComesTo u es v → ComesTo w (e ∷ es) v
 
--- These were taken over or appended, in their order.
-abbrev pub Moves : List Entry → Contents → Contents → Type 0
-Moves entries old new = new.taken ≡ old.taken ++ entries
+-- The place stays, and these were taken over or appended there, in their order.
+pub record Moves (entries : List Entry) (old new : Contents) : Type 0 where
+  pub begins : new.begins ≡ old.begins
+  pub taken : new.taken ≡ old.taken ++ entries
 
--- The world now is what these entries make of the one before, and they are what was taken over or appended since.
+-- The world is what is taken in a place: a world for which the snapshot there stands is what some of these entries make
+-- of the one before, and it goes on from there by the rest, which was taken over or appended behind the snapshot.
+pub record Settles (w : World) (entries : List Entry) (v : World) (new : Contents) : Type 0 where
+  pub snapshot : List Entry
+  pub before : List Entry
+  pub since : List Entry
+  pub parts : entries ≡ before ++ since
+  pub taken : new.taken ≡ snapshot ++ since
+  pub at : World
+  pub leads : ComesTo w before at
+  pub goes_on : ComesTo at since v
+  pub stands_for : StandsFor new.begins snapshot at
+
+-- What these entries are to the place, by whether the process was lost, and is.
+pub data Goes (was is : Bool) (w : World) (entries : List Entry) (v : World) (old new : Contents) : Type 0 where
+  stays : was ≡ false → Moves entries old new → Goes was is w entries v old new
+  settles : is ≡ false → Settles w entries v new → Goes was is w entries v old new
+  strays : is ≡ true → Goes was is w entries v old new
+
+-- The world now is what these entries make of the one before, and they are what was taken over or appended since, or
+-- what led to another place and was taken over or appended there.
 pub record Replays {L : Type 0} (contents : L → Option Contents) (a b : JournalState L) : Type 0 where
   pub entries : List Entry
   pub comes : ComesTo a.world entries b.world
-  pub taken : WhereKnown (Moves entries) (contents a.log) (contents b.log)
+  pub taken : WhereKnown (Goes a.is_lost b.is_lost a.world entries b.world) (contents a.log) (contents b.log)
 
 -- All that stands, taken or unread, stands on in its order, and more may stand after it.
 pub record StandsOn (old new : Contents) : Type 0 where
   pub come : List Entry
+  pub begins : new.begins ≡ old.begins
   pub all : new.taken ++ new.unread ≡ (old.taken ++ old.unread) ++ come
+
+-- What stands begins with a snapshot, of whichever world.
+pub record BeginsAnew (new : Contents) : Type 0 where
+  pub snapshot : List Entry
+  pub more : List Entry
+  pub all : new.taken ++ new.unread ≡ snapshot ++ more
+  pub world : World
+  pub stands_for : StandsFor new.begins snapshot world
+
+-- What becomes of all that stands, by whether the process was lost, and is.
+pub data Keeps (was is : Bool) (old new : Contents) : Type 0 where
+  stands : was ≡ false → StandsOn old new → Keeps was is old new
+  anew : is ≡ false → BeginsAnew new → Keeps was is old new
+  strays : is ≡ true → Keeps was is old new
 
 -- What becomes of a journal: its accesses, what it takes over besides, what it gives back for nodes that are dead, and
 -- nodes that become own ones, in any order.
@@ -54,17 +93,34 @@ pub data Lives {L : Type 0} (contents : L → Option Contents) : JournalState L 
   adopts : {a b c : JournalState L} (i : ℕ) (r : Result (Unit {0}) AdoptError) → Lives contents a b
       → Adopts contents i r b c → Lives contents a c
 
--- It began in an empty world over a log of which it had taken nothing, and isn't over. Its log is known, and these are
--- the entries that it has taken over or appended since.
+-- It began in an empty world over a log of which it had taken nothing, and isn't over or lost. Its log is known, and
+-- these are the entries that it has taken over or appended in the place where it is, or that the snapshot there has.
+-- The counter begins with this number before them.
 pub record HasTaken {L : Type 0} (contents : L → Option Contents) (counter : ℕ) (entries : List Entry)
     (b : JournalState L) : Type 0 where
   pub start : JournalState L
   pub lives : Lives contents start b
-  pub empty : start.world ≡ empty_world counter
+  pub was_not_lost : start.is_lost ≡ false
   pub before : Contents
   pub knew : contents start.log ≡ Some before
+  pub empty : start.world ≡ empty_world before.begins
   pub had_none : before.taken ≡ []
   pub after : Contents
   pub knows : contents b.log ≡ Some after
+  pub begins : after.begins ≡ counter
   pub has : after.taken ≡ entries
   pub is_not_over : b.is_over ≡ false
+  pub is_not_lost : b.is_lost ≡ false
+
+-- From nothing, with this number next, the entries come to the world: the first ones, but for who has only read, to one
+-- that agrees, and the rest from there.
+pub record AmountsTo (counter : ℕ) (entries : List Entry) (w : World) : Type 0 where
+  pub front : List Entry
+  pub rest : List Entry
+  pub parts : entries ≡ front ++ rest
+  pub exact : World
+  pub comes : ComesTo (empty_world counter) front exact
+  pub at : World
+  pub same : IsSameButRead exact at
+  pub agrees : Agrees at
+  pub goes_on : ComesTo at rest w

@@ -53,6 +53,7 @@ impl<L> Model for Journal<L> {
       log = j.pen.log;
       nodes = j.nodes.items;
       is_over = j.is_over;
+      is_lost = j.is_lost;
     } };
 }
 
@@ -64,6 +65,7 @@ impl<L> Journal<L> {
           log = log;
           nodes = nodes.items;
           is_over = false;
+          is_lost = false;
         } }
     {
         Journal {
@@ -83,7 +85,8 @@ impl<L> Journal<L> {
         self.world.list()
     }
 
-    /// The world as far as the log has been taken over, for its readers. Once the journal is over it is what it was then.
+    /// The world as far as the log has been taken over, for its readers. Once the journal is over it is what it was
+    /// then.
     pub fn world(&self) -> &StoredWorld
         ensures { result.now ≡ self.now.world }
     {
@@ -165,8 +168,8 @@ impl<L: Log> Journal<L> {
         }
     }
 
-    /// Takes over what others appended, and answers whether that was all. It isn't where the log can't be held or read, or
-    /// the journal is over: then it stays as far as it was, or as it came.
+    /// Takes over what others appended, and answers whether that was all. It isn't where the log can't be held or read,
+    /// or the journal is over: then it stays as far as it was, or as it came.
     pub fn catch_up(&mut self) -> bool
         ensures takes { Begins L.contents true result self.old self.new }
         ensures hold { KeepsHold L.held self.old self.new }

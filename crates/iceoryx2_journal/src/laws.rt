@@ -8,6 +8,7 @@ ghost use Rattle.iceoryx2_journal.specs.Laws.{OneWorldEach, ShowsOneWorld};
 ghost use Rattle.iceoryx2_journal.specs.Processes.{AgreesInEach, GoesOnFromOthers, PublishesOnce};
 ghost use Rattle.iceoryx2_journal.specs.Processes.{CarriesOneDescription, StandsInOthers, OwnStandsInOthers};
 ghost use Rattle.iceoryx2_journal.specs.Processes.{OwnStandsAtTheEnd, FewHaveAPart};
+ghost use Rattle.iceoryx2_journal.specs.Processes.{StandsAcross, CarriesOneAcross, FewAcross};
 
 use iceoryx2_log::log::Log;
 
@@ -25,11 +26,13 @@ pub fn journals<L: Log>()
     ensures over { StaysOver L.contents }
 
     // Where the log's entries are known, an access that isn't its general fault leaves none of them unread; none goes
-    // or changes its place, and what is appended comes after all of them.
+    // or changes its place, and what is appended comes after all of them, until the log goes on in another place. What
+    // stands there begins with a snapshot.
     ensures unread { LeavesNothingUnread L.contents }
     ensures kept { KeepsTheLog L.contents }
 
-    // Until the journal is over its world is what the entries come to that it has taken over or appended, in order.
+    // Until the journal is over or lost its world is what the entries come to that it has taken over or appended, in
+    // order, in the place where the log is, but for who has only read.
     ensures replays { ReplaysTheLog L.contents }
     ensures whole { IsWhatTheLogComesTo L.contents }
 
@@ -55,9 +58,9 @@ pub fn entries()
 
 /// What holds of several processes over one log, however many there are.
 ///
-/// The premise is that each began in an empty world and has read a front of one list of entries: it has taken these over,
-/// or appended them. The entries of a log are known where its contract tells them, as a `MemoryLog`'s; a file's never are,
-/// and that all its handles read one list is trusted. A compaction ends the list.
+/// The premise is that each began in an empty world and has read a front of one list of entries: it has taken these
+/// over, or appended them, or came by a snapshot with which the list begins. The entries of a log are known where its
+/// contract tells them, as a `MemoryLog`'s; a file's never are, and that all its handles read one list is trusted.
 pub fn processes<L: Log>()
     // The world of each agrees.
     ensures agrees { AgreesInEach L.contents }
@@ -83,4 +86,10 @@ pub fn processes<L: Log>()
     // All processes together, no more nodes have a factory of one service and number that stands at the end than its
     // description allows.
     ensures few { FewHaveAPart L.contents }
+
+    // Over any number of compactions a factory stands unless its ticket is released, factories of one service and
+    // number carry one description, and no more nodes have one than it allows.
+    ensures stands_across { StandsAcross L.contents }
+    ensures one_across { CarriesOneAcross L.contents }
+    ensures few_across { FewAcross L.contents }
 {}

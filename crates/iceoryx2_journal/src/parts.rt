@@ -90,8 +90,8 @@ pub fn make_segment<L: Log>(
     number: u64,
     max_nodes: u64,
 ) -> Result<(), MakeSegmentError>
-    ensures logged { IsLoggedPart L.contents world.old (letter.MakeSegment node hash.now number max_nodes result) world.new
-        pen.old.log pen.new.log }
+    ensures logged { IsLoggedPart L.contents world.old (letter.MakeSegment node hash.now number max_nodes result)
+        world.new pen.old.log pen.new.log }
     ensures free { L.held pen.new.log ≡ false }
 {
     pen.entry = Some(Entry {
@@ -157,8 +157,8 @@ pub fn publish<L: Log>(
     number: u64,
     description: &StaticConfig,
 ) -> Result<u64, PublishError>
-    ensures logged { IsLoggedPart L.contents world.old (letter.Publish node hash.now number description.now result) world.new
-        pen.old.log pen.new.log }
+    ensures logged { IsLoggedPart L.contents world.old (letter.Publish node hash.now number description.now result)
+        world.new pen.old.log pen.new.log }
     ensures free { L.held pen.new.log ≡ false }
 {
     let Ok(form) = bytes::encode(alloc, description) else {

@@ -2,13 +2,12 @@
 //! it goes on.
 
 ghost use Rattle.std.specs.Prelude.{◌≡◌, List, IfOk, IfSome, OnOk, None, false};
-ghost use Rattle.iceoryx2_access.specs.Run.{Run};
 ghost use Rattle.iceoryx2_log.specs.declared.entry.Entry as declared;
-ghost use Rattle.iceoryx2_world.specs.World.{World};
+ghost use Rattle.iceoryx2_log.specs.Log.{WhereKnown};
 ghost use Rattle.iceoryx2_table.specs.Same.{IsSameButRead};
-ghost use Rattle.iceoryx2_journal.specs.Taking.{is_own, TakesNext, TakesAllOf};
-ghost use Rattle.iceoryx2_journal.specs.Follow.{IsFollowed};
-ghost use Rattle.iceoryx2_journal.specs.Snapshot.{IsSnapshot, IsRestored, RestoresNext, WritesNext};
+ghost use Rattle.iceoryx2_journal.specs.Taking.{is_own, Takes, TakesNext, TakesAllOf};
+ghost use Rattle.iceoryx2_journal.specs.Taking.{RestoresNext, Restores, IsRestored, CatchesUp, IsCompacted};
+ghost use Rattle.iceoryx2_journal.specs.Snapshot.{IsSnapshot, StandsFor, WritesNext};
 
 use crate::course::Course;
 use crate::follow::{FollowError, follow};
@@ -118,10 +117,9 @@ fn advance(
 
 // ---- a snapshot that is read
 
-// Follows the next entry of the snapshot.
+// Follows the next entry of the snapshot, and takes it over.
 fn restore_next<L: Log>(alloc: Global, world: &mut StoredWorld, log: &mut L) -> Next
-    ensures restores { RestoresNext result world.old world.new }
-    ensures log { L.contents log.new ≡ L.contents log.old }
+    ensures { RestoresNext result world.old world.new (L.contents log.old) (L.contents log.new) }
 {
     if !log.is_in_snapshot() {
         return Next::Nothing;
@@ -141,10 +139,9 @@ fn restore_next<L: Log>(alloc: Global, world: &mut StoredWorld, log: &mut L) -> 
     }
 }
 
-// Follows the entries of the snapshot before which the handle stands.
+// Follows the entries of the snapshot before which the handle stands, and takes them over.
 fn restore_all<L: Log>(alloc: Global, world: &mut StoredWorld, log: &mut L) -> Result<(), Stop>
-    ensures restores { OnOk result ((entries : List declared.Entry) × Run IsFollowed world.old entries world.new) }
-    ensures log { L.contents log.new ≡ L.contents log.old }
+    ensures { Restores result world.old world.new (L.contents log.old) (L.contents log.new) }
 {
     for _ in 0..u64::MAX {
         match restore_next(alloc, world, log) {
@@ -156,10 +153,11 @@ fn restore_all<L: Log>(alloc: Global, world: &mut StoredWorld, log: &mut L) -> R
     Err(Stop::Later)
 }
 
-// What the snapshot comes to before which the handle stands, from this number on.
+// What the snapshot comes to before which the handle stands, from this number on. It is taken over.
 fn restored<L: Log>(alloc: Global, log: &mut L, counter: u64) -> Result<StoredWorld, Stop>
-    ensures world { IfOk result (λ world. IsRestored counter world) }
-    ensures log { L.contents log.new ≡ L.contents log.old }
+    ensures world { IfOk result (λ world. IsRestored counter world (L.contents log.old) (L.contents log.new)) }
+    ensures taken { (entries : List declared.Entry)
+        × WhereKnown (Takes entries) (L.contents log.old) (L.contents log.new) }
 {
     let mut world = StoredWorld::starting_at(alloc, counter);
     restore_all(alloc, &mut world, log)?;
@@ -175,7 +173,7 @@ pub fn catch_up<L: Log>(
     log: &mut L,
     nodes: &[u64],
 ) -> Result<(), Stop>
-    ensures { TakesAllOf nodes.now result world.old world.new (L.contents log.old) (L.contents log.new) }
+    ensures { CatchesUp nodes.now result world.old world.new (L.contents log.old) (L.contents log.new) }
 {
     let Ok(counter) = log.rejoin() else {
         return Err(Stop::Later);
@@ -213,10 +211,10 @@ fn write_next(
     Next::Taken
 }
 
-// Entries that lead from nothing to the world, as long as the way is known. They come to some world: whether it is this
-// one is for who compares them.
-fn snapshot_of(alloc: Global, world: &StoredWorld) -> Result<Vec<Entry>, Stop>
-    ensures { IfOk result (λ entries. (w : World) × IsSnapshot FIRST_NUMBER entries.items w) }
+// Entries that lead from nothing to the world, as long as the way is known, and the world to which they come. Whether
+// it is this one is for who compares them.
+fn way_to(alloc: Global, world: &StoredWorld) -> Result<(Vec<Entry>, StoredWorld), Stop>
+    ensures { IfOk result (λ way. IsSnapshot FIRST_NUMBER way.0.items way.1) }
 {
     let mut copy = StoredWorld::starting_at(alloc, FIRST_NUMBER);
     let mut entries = Vec::new(alloc);
@@ -224,49 +222,37 @@ fn snapshot_of(alloc: Global, world: &StoredWorld) -> Result<Vec<Entry>, Stop>
     for _ in 0..u64::MAX {
         match write_next(alloc, &mut course, &mut copy, &mut entries, world) {
             Next::Taken => {}
-            Next::Nothing => return Ok(entries),
+            Next::Nothing => return Ok((entries, copy)),
             Next::Stopped(stop) => return Err(stop),
         }
     }
     Err(Stop::Later)
 }
 
-// Ends a compaction whose snapshot comes to the world.
-fn finish<L: Log>(log: &mut L, world: &StoredWorld, restored: &StoredWorld)
-    requires { IsSameButRead world.now restored.now }
-    ensures { L.contents log.new ≡ L.contents log.old }
+// Entries that stand for the world. `Later` without memory, and `Over` where no way to it is known.
+fn snapshot_of(alloc: Global, world: &StoredWorld) -> Result<Vec<Entry>, Stop>
+    ensures { IfOk result (λ entries. StandsFor FIRST_NUMBER entries.items world.now) }
 {
-    let _ = log.finish_compaction();
-}
-
-// Ends a compaction, or gives it up where its snapshot doesn't come to the world.
-fn settle<L: Log>(log: &mut L, world: &StoredWorld, restored: &StoredWorld)
-    ensures { L.contents log.new ≡ L.contents log.old }
-{
-    if world.is_same(restored) {
-        finish(log, world, restored);
+    let (entries, copy) = way_to(alloc, world)?;
+    if copy.is_same(world) {
+        Ok(entries)
     } else {
-        log.abandon_compaction();
+        Err(Stop::Over)
     }
 }
 
-/// Compacts a log that is long, is held, and of which all is taken over. The new place is read back before anybody
-/// finds it, and taken where it comes to the world. Where anything refuses the log stays as it is.
+/// Compacts a log that is long, is held, and of which all is taken over: it goes on in a new place, whose snapshot
+/// stands for the world. Where anything refuses the log stays as it is.
 pub fn compact<L: Log>(alloc: Global, world: &StoredWorld, log: &mut L)
-    ensures { L.contents log.new ≡ L.contents log.old }
+    ensures { WhereKnown (IsCompacted world.now) (L.contents log.old) (L.contents log.new) }
 {
     if !log.is_long() {
         return;
     }
-    let Ok(entries) = snapshot_of(alloc, world) else {
-        log.abandon_compaction();
-        return;
-    };
-    let Ok(counter) = log.begin_compaction(&entries) else {
-        return;
-    };
-    match restored(alloc, log, counter) {
-        Ok(copy) => settle(log, world, &copy),
-        Err(_) => log.abandon_compaction(),
+    match snapshot_of(alloc, world) {
+        Ok(entries) => {
+            let _ = log.compact(&entries);
+        }
+        Err(_) => log.put_off_compaction(),
     }
 }

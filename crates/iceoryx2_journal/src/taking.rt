@@ -1,7 +1,7 @@
 //! Taking over what others appended.
 
-ghost use Rattle.std.specs.Prelude.{◌≡◌, false};
-ghost use Rattle.iceoryx2_journal.specs.Taking.{is_own, ends, IsLaterFor, TakesNext, TakesAllOf};
+ghost use Rattle.std.specs.Prelude.{◌≡◌, false, OnOk};
+ghost use Rattle.iceoryx2_journal.specs.Taking.{is_own, ends, IsLaterFor, TakesNext, TakesAllOf, ReachesAllOf};
 
 use crate::follow::{FollowError, follow};
 use crate::snapshot::catch_up;
@@ -99,10 +99,14 @@ fn take_here<L: Log>(
     nodes: &[u64],
     is_lost: &mut bool,
 ) -> Result<(), Stop>
-    ensures { TakesAllOf nodes.now result world.old world.new (L.contents log.old) (L.contents log.new) }
+    ensures takes { TakesAllOf nodes.now result world.old world.new (L.contents log.old) (L.contents log.new) }
+    ensures found { OnOk result (is_lost.new ≡ false) }
 {
     let taken = take_all(alloc, world, log, nodes);
-    *is_lost = taken == Err(Stop::Moved);
+    *is_lost = match taken {
+        Err(Stop::Moved) => true,
+        _ => false,
+    };
     taken
 }
 
@@ -114,7 +118,8 @@ fn take_round<L: Log>(
     nodes: &[u64],
     is_lost: &mut bool,
 ) -> Result<(), Stop>
-    ensures { TakesAllOf nodes.now result world.old world.new (L.contents log.old) (L.contents log.new) }
+    ensures { ReachesAllOf nodes.now result is_lost.old is_lost.new world.old world.new
+        (L.contents log.old) (L.contents log.new) }
 {
     if !*is_lost {
         return take_here(alloc, world, log, nodes, is_lost);
@@ -134,7 +139,8 @@ pub fn take_over<L: Log>(
     nodes: &[u64],
     is_lost: &mut bool,
 ) -> Result<(), Stop>
-    ensures { TakesAllOf nodes.now result world.old world.new (L.contents log.old) (L.contents log.new) }
+    ensures { ReachesAllOf nodes.now result is_lost.old is_lost.new world.old world.new
+        (L.contents log.old) (L.contents log.new) }
 {
     for _ in 0..MOVES {
         match take_round(alloc, world, log, nodes, is_lost) {

@@ -3,7 +3,8 @@
 ghost use Rattle.std.specs.Prelude.{◌≡◌, Option, Bool, true, false, IfOk, OnOk, OnErr};
 ghost use Rattle.std.specs.Prelude.{if◌then◌else◌};
 ghost use Rattle.iceoryx2_log.specs.declared.log.LogError.TheVariants.{OutOfMemory};
-ghost use Rattle.iceoryx2_log.specs.Log.{Contents, WhereKnown, Grows, Shows, Accepts, Appends, Rejoins, Compacts, is_shown};
+ghost use Rattle.iceoryx2_log.specs.Log.{Contents, WhereKnown, Grows, Shows, Accepts, Appends, is_shown};
+ghost use Rattle.iceoryx2_log.specs.Log.{Rejoins, Compacts};
 
 use crate::entry::Entry;
 use std::alloc::{AllocError, AllocFailed};
@@ -64,8 +65,8 @@ impl<T: Drop> From<AllocFailed<T>> for LogError {
 /// order, one at a time by `next` and `accept`, and appends its own behind them. Between `hold` and `let_go`, or a
 /// `pause` that lets go of it, no other handle appends.
 pub trait Log {
-    /// What this handle has taken over or appended in the place where it is, in order, and what stands behind that, where
-    /// it is known.
+    /// What this handle has taken over or appended in the place where it is, in order, and what stands behind that,
+    /// where it is known.
     ghost contents: { Self → Option Contents };
 
     /// Whether this handle holds the log.

@@ -1,7 +1,7 @@
 use Rattle.iceoryx2_journal.proofs.Runs.{goes_among_others, goes_under, keeps_nodes, refuses_others, stays_over}
 use Rattle.iceoryx2_journal.proofs.Unread.{leaves_none_unread, keeps_the_log}
 use Rattle.iceoryx2_journal.proofs.Replaying.{replays_the_log, is_what_it_comes_to}
-use Rattle.iceoryx2_journal.proofs.SameWorlds.{shows_one_world}
+use Rattle.iceoryx2_journal.proofs.Amounts.{shows_one_world}
 use Rattle.iceoryx2_journal.proofs.laws.journals.Goals as goal
 
 pub returns-clause-among_others : goal.returns-clause-among_others

@@ -1,4 +1,4 @@
-use Rattle.iceoryx2_journal.proofs.Processes.{agrees_in_each, goes_on, publishes_once, carries_one, stands_in_others, own_stands_in_others, own_stands_at_the_end, few_have_a_part}
+use Rattle.iceoryx2_journal.proofs.Processes.{agrees_in_each, goes_on, publishes_once, carries_one, stands_in_others, own_stands_in_others, own_stands_at_the_end, few_have_a_part, stands_across, carries_across, few_across}
 use Rattle.iceoryx2_journal.proofs.laws.processes.Goals as goal
 
 pub returns-clause-agrees : goal.returns-clause-agrees
@@ -24,3 +24,12 @@ returns-clause-own_at_the_end g c = own_stands_at_the_end g.L.Log.contents
 
 pub returns-clause-few : goal.returns-clause-few
 returns-clause-few g c = few_have_a_part g.L.Log.contents
+
+pub returns-clause-stands_across : goal.returns-clause-stands_across
+returns-clause-stands_across g c = stands_across g.L.Log.contents
+
+pub returns-clause-one_across : goal.returns-clause-one_across
+returns-clause-one_across g c = carries_across g.L.Log.contents
+
+pub returns-clause-few_across : goal.returns-clause-few_across
+returns-clause-few_across g c = few_across g.L.Log.contents

@@ -7,4 +7,4 @@ pub returns-then-not-begin_look : goal.returns-then-not-begin_look
 returns-then-not-begin_look g c = (fell c.begin_look.result c.if-not-begin_look.true refl c.begin_look.ensures.begins, c.begin_look.ensures.hold c.if-not-begin_look.true)
 
 pub returns : goal.returns
-returns g c = (acted c.self.view_is c.begin_look.result c.if-not-begin_look.false c.begin_look.ensures.begins (unwritten refl c.exists.ensures refl c.let_go.ensures.same) refl refl, c.let_go.ensures.held ∙ sym (c.begin_look.ensures.was_free c.if-not-begin_look.false))
+returns g c = (acted c.self.view_is c.begin_look.result c.if-not-begin_look.false c.begin_look.ensures.begins (unwritten refl c.exists.ensures refl c.let_go.ensures.same) refl refl refl, c.let_go.ensures.held ∙ sym (c.begin_look.ensures.was_free c.if-not-begin_look.false))
