@@ -7,11 +7,11 @@
 //! journal's own node, for any log and whatever stands in it (`PromiseOverLog`).
 //!
 //! `laws::sessions_over_logs()`, of any number of sessions over journals that have read fronts of one list of known
-//! entries, which a file's aren't and which a compaction ends: in all slots factories of one service and number carry
-//! one description (`HoldsOneDescription`), and where nothing that is read elsewhere is in an own node's name no more
-//! nodes hold one than its description allows (`FewHold`). `laws::opens_again()`: what a call has given, an open by any
-//! node takes that has the same settings and types, over a table that nobody else uses, with a place and a number left,
-//! or is out of memory (`OpensAgain`).
+//! entries, which a file's aren't: in all slots factories of one service and number carry one description
+//! (`HoldsOneDescription`), and where nothing that is read elsewhere is in an own node's name no more nodes hold one than
+//! its description allows (`FewHold`). Both hold over any number of compactions (`HoldsOneAcross`, `FewHoldAcross`).
+//! `laws::opens_again()`: what a call has given, an open by any node takes that has the same settings and types, over a
+//! table that nobody else uses, with a place and a number left, or is out of memory (`OpensAgain`).
 #![tactic(auto)]
 
 pub mod builder;

@@ -19,6 +19,7 @@ ghost use Rattle.iceoryx2_call_laws.specs.Promise.{Promise};
 ghost use Rattle.iceoryx2_log.specs.declared.entry.Entry.{Entry};
 ghost use Rattle.iceoryx2_service.specs.OverLogs.{PromiseOverLog};
 ghost use Rattle.iceoryx2_service.specs.SharedSlots.{HoldsOneDescription, FewHold};
+ghost use Rattle.iceoryx2_service.specs.SharedSlots.{HoldsOneAcross, FewHoldAcross};
 
 use iceoryx2_log::log::Log;
 
@@ -67,14 +68,17 @@ pub fn promise_over_logs<L: Log>()
 /// What sessions hold together whose processes share a log, however many there are.
 ///
 /// The premise is that each journal has read a front of one list of entries, which are known, and that each slot's
-/// factory is of an own node and stands, as it does after each command of an own node. A file's entries are never known,
-/// and a compaction ends the list.
+/// factory is of an own node and stands, as it does after each command of an own node. A file's entries are never known.
 pub fn sessions_over_logs<L: Log>()
     // In all slots factories of one service and number carry one description.
     ensures one { (counter : ℕ) (entries : List Entry) → HoldsOneDescription L.contents counter entries }
 
     // Where a node is one process's, no more nodes hold any of these than their description allows.
     ensures few { (counter : ℕ) (entries : List Entry) → FewHold L.contents counter entries }
+
+    // Both hold over any number of compactions, where one's process has read more than those of the others.
+    ensures one_across { HoldsOneAcross L.contents }
+    ensures few_across { FewHoldAcross L.contents }
 {}
 
 /// What a call of a builder has given, whichever of its three, an open with the same settings and

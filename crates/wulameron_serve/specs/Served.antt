@@ -42,7 +42,7 @@ module _ {S : Type 0} (step : S → Letter → S → Type 0) (world : S → Worl
 
 -- a journal of no node that has taken nothing over yet
 abbrev pub first_journal : {L : Type 0} → L → ℕ → JournalState L
-first_journal log counter = record { world = empty_world counter; log = log; nodes = []; is_over = false }
+first_journal log counter = record { world = empty_world counter; log = log; nodes = []; is_over = false; is_lost = false }
 
 -- The same over a journal that has this node alone, after what the node had was given back.
 pub record StartsLog {L : Type 0} (contents : L → Option Contents) (held : L → Bool) (refused : L → Option FileFault)

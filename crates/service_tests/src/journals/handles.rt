@@ -1,8 +1,9 @@
-//! Processes over one list, whose calls are drawn by chance: after each step every process lists the same as the plain
-//! table to which all accesses were made, and each open factory carries what is published of its service.
+//! Processes over one log, whose calls are drawn by chance: after each step every process lists the same as the plain
+//! table to which all accesses were made, and each open factory carries what is published of its service. That holds
+//! over any number of compactions.
 
 use crate::drawn::drawn;
-use crate::journals::list_log::{List, ListLog};
+use crate::journals::list_log::{ListLog, Place, SharedPlaces};
 use crate::journals::recording::{Recorded, Recording};
 use crate::journals::schedules::drawn_command;
 use crate::journals::support::{Tally, assert_same, copies, count, granted, push, reply_of};
@@ -10,6 +11,7 @@ use iceoryx2_byte_form::bytes::encode;
 use iceoryx2_commands::command::Reply;
 use iceoryx2_description::description::ServiceHash;
 use iceoryx2_journal::journal::{Journal, Shared};
+use iceoryx2_log::entry::Entry;
 use iceoryx2_world::listing::{self, ListedRow};
 use iceoryx2_world::world::Bytes;
 use std::alloc::Global;
@@ -39,8 +41,13 @@ fn first_node(process: usize) -> u64 {
     (process as u64).saturating_mul(10).saturating_add(1)
 }
 
-/// Processes over one list, each with three nodes.
-fn started(rt: &impl Abort, alloc: Global, list: &List, of: &[usize]) -> Vec<Process> {
+/// Processes over one log, each with three nodes. It is long from so many entries on.
+fn started(
+    rt: &impl Abort,
+    alloc: Global,
+    (places, long_from): (&SharedPlaces, usize),
+    of: &[usize],
+) -> Vec<Process> {
     let mut all = Vec::new(alloc);
     for &process in of {
         let first = first_node(process);
@@ -48,7 +55,7 @@ fn started(rt: &impl Abort, alloc: Global, list: &List, of: &[usize]) -> Vec<Pro
         let nodes = granted(rt, nodes.to_vec(alloc));
         let journal = Journal::starting_at(
             alloc,
-            ListLog::new(granted(rt, list.clone())),
+            ListLog::new(granted(rt, places.clone()), long_from),
             nodes,
             0,
         );
@@ -121,26 +128,64 @@ fn compare(
     found
 }
 
-/// Compares so many processes with the plain table in one schedule, which follows from its seed.
-fn compare_all(rt: &impl Abort, alloc: Global, schedule: u64, of: &[usize], tally: &mut Tally) {
-    let list = granted(rt, Rc::new(alloc, RefCell::new(Vec::new(alloc))));
-    let mut processes = started(rt, alloc, &list, of);
-    let mut table = Recording::new(alloc, Vec::new(alloc));
+/// The only place of a log of which nothing stands.
+fn first_place(rt: &impl Abort, alloc: Global) -> SharedPlaces {
+    let mut places = Vec::new(alloc);
+    push(
+        rt,
+        &mut places,
+        Place {
+            snapshot_length: 0,
+            entries: Vec::new(alloc),
+        },
+    );
+    granted(rt, Rc::new(alloc, RefCell::new(places)))
+}
+
+/// Compares so many processes with the plain table in one schedule, which follows from its seed, over a log that is long
+/// from so many entries on. Gives its places.
+fn compare_calls(
+    rt: &impl Abort,
+    alloc: Global,
+    (schedule, long_from): (u64, usize),
+    of: &[usize],
+    table: &mut Recording,
+    tally: &mut Tally,
+) -> SharedPlaces {
+    let places = first_place(rt, alloc);
+    let mut processes = started(rt, alloc, (&places, long_from), of);
     let mut seed = schedule;
     for command in 0..COMMANDS {
         let at = drawn(rt, &mut seed, of);
         let place = (schedule, command);
         if let Some(process) = processes.get_mut(at) {
             let first = (place, first_node(at));
-            let reply = compare(rt, alloc, first, process, &mut table, &mut seed);
+            let reply = compare(rt, alloc, first, process, table, &mut seed);
             count(tally, &reply);
         }
-        assert_listings(rt, alloc, place, &mut processes, &table);
+        assert_listings(rt, alloc, place, &mut processes, table);
     }
-    let entries = match list.try_borrow() {
-        Ok(all) => copies(rt, alloc, &all),
+    places
+}
+
+/// The entries of the first place.
+fn first_entries(rt: &impl Abort, alloc: Global, places: &SharedPlaces) -> Vec<Entry> {
+    match places.try_borrow() {
+        Ok(all) => match all.first() {
+            Some(place) => copies(rt, alloc, &place.entries),
+            None => Vec::new(alloc),
+        },
         Err(_) => Vec::new(alloc),
-    };
+    }
+}
+
+/// Compares so many processes with the plain table in one schedule, whose log is never long: it has the entries that were
+/// recorded.
+fn compare_all(rt: &impl Abort, alloc: Global, schedule: u64, of: &[usize], tally: &mut Tally) {
+    let mut table = Recording::new(alloc, Vec::new(alloc));
+    let drawn = (schedule, usize::MAX);
+    let places = compare_calls(rt, alloc, drawn, of, &mut table, tally);
+    let entries = first_entries(rt, alloc, &places);
     let wanted = copies(rt, alloc, &table.entries);
     assert_same(rt, (schedule, entries), (schedule, wanted));
 }
@@ -173,4 +218,35 @@ fn three_processes_share_one_world(rt: HostRuntime) {
 #[test]
 fn four_processes_share_one_world(rt: HostRuntime) {
     compare_from(&rt, rt.alloc(), 4000, &[0, 1, 2, 3]);
+}
+
+/// From how many entries on a log is long.
+const LONG_FROM: usize = 12;
+
+/// The fewest compactions in all schedules: nearly each of them has more entries than make a log long.
+const FEWEST_COMPACTIONS: usize = 100;
+
+#[test]
+fn three_processes_share_one_world_over_compactions(rt: HostRuntime) {
+    let alloc = rt.alloc();
+    let mut tally = (0, 0);
+    let mut compactions = 0usize;
+    for schedule in 5000..5100 {
+        let mut table = Recording::new(alloc, Vec::new(alloc));
+        let drawn = (schedule, LONG_FROM);
+        let places = compare_calls(&rt, alloc, drawn, &[0, 1, 2], &mut table, &mut tally);
+        if let Ok(all) = places.try_borrow() {
+            compactions = compactions.saturating_add(all.len().saturating_sub(1));
+        };
+    }
+    let enough = (
+        tally.0 >= FEWEST,
+        tally.1 >= FEWEST,
+        compactions >= FEWEST_COMPACTIONS,
+    );
+    assert_same(
+        &rt,
+        (tally, compactions, enough),
+        (tally, compactions, (true, true, true)),
+    );
 }

@@ -1,4 +1,4 @@
-//! Handles of one list of entries.
+//! Handles of one log in memory, which they compact.
 
 ghost use Rattle.std.specs.Prelude.{None};
 
@@ -7,35 +7,51 @@ use iceoryx2_log::log::{Log, LogError};
 use std::cell::RefCell;
 use std::rc::Rc;
 
-/// The list that handles share.
-pub type List = Rc<RefCell<Vec<Entry>>>;
+/// A place of a log: its entries, of which the first ones are a snapshot.
+#[derive(Drop)]
+pub struct Place {
+    pub snapshot_length: usize,
+    pub entries: Vec<Entry>,
+}
 
-/// A handle of a list that others have handles of too. What stands in the list isn't known to a contract.
+/// The places of a log, which handles share. It goes on in the last one.
+pub type SharedPlaces = Rc<RefCell<Vec<Place>>>;
+
+/// A handle of a log that others have handles of too. What stands in it isn't known to a contract.
 #[derive(Drop)]
 pub struct ListLog {
-    list: List,
+    places: SharedPlaces,
+    place: usize,
     taken: usize,
     is_held: bool,
     is_shown: bool,
+    /// How many entries a place has at least that is long.
+    long_from: usize,
 }
 
 impl ListLog {
-    /// A handle that has taken nothing yet.
-    pub fn new(list: List) -> ListLog {
+    /// A handle that stands before the first entry of the first place.
+    pub fn new(places: SharedPlaces, long_from: usize) -> ListLog {
         ListLog {
-            list,
+            places,
+            place: 0,
             taken: 0,
             is_held: false,
             is_shown: false,
+            long_from,
         }
     }
 
-    /// The entry after those that were taken, if there is one.
+    /// The entry after those that were taken, if there is one. `Moved` at the end of a place that isn't the last.
     fn unread(&self) -> Result<Option<Entry>, LogError> {
-        let Ok(all) = self.list.try_borrow() else {
+        let Ok(all) = self.places.try_borrow() else {
             return Err(LogError::Failed);
         };
-        match all.get(self.taken) {
+        let Some(here) = all.get(self.place) else {
+            return Err(LogError::Failed);
+        };
+        match here.entries.get(self.taken) {
+            None if self.place.saturating_add(1) < all.len() => Err(LogError::Moved),
             None => Ok(None),
             Some(entry) => match entry.clone() {
                 Ok(copy) => Ok(Some(copy)),
@@ -44,15 +60,34 @@ impl ListLog {
         }
     }
 
-    /// Puts an entry after all others.
+    /// Puts an entry after all others of the place.
     fn put(&self, entry: Entry) -> Result<(), LogError> {
-        let Ok(mut all) = self.list.try_borrow_mut() else {
+        let Ok(mut all) = self.places.try_borrow_mut() else {
             return Err(LogError::Failed);
         };
-        match all.push(entry) {
+        let Some(here) = all.get_mut(self.place) else {
+            return Err(LogError::Failed);
+        };
+        match here.entries.push(entry) {
             Ok(()) => Ok(()),
             Err(_) => Err(LogError::OutOfMemory),
         }
+    }
+
+    /// Puts a place with these entries after all others.
+    fn put_place(&self, snapshot: &[Entry]) -> Result<(), LogError> {
+        let Ok(mut all) = self.places.try_borrow_mut() else {
+            return Err(LogError::Failed);
+        };
+        let mut entries = Vec::new(*all.allocator());
+        for entry in snapshot {
+            entries.push(entry.clone()?)?;
+        }
+        all.push(Place {
+            snapshot_length: snapshot.len(),
+            entries,
+        })?;
+        Ok(())
     }
 }
 
@@ -119,27 +154,52 @@ impl Log for ListLog {
         false
     }
 
-    // It goes on nowhere else.
-
     fn rejoin(&mut self) -> Result<u64, LogError> {
-        Err(LogError::Failed)
+        if !self.is_held {
+            return Err(LogError::Failed);
+        }
+        let Ok(all) = self.places.try_borrow() else {
+            return Err(LogError::Failed);
+        };
+        self.place = all.len().saturating_sub(1);
+        self.taken = 0;
+        self.is_shown = false;
+        Ok(0)
     }
 
     fn is_in_snapshot(&self) -> bool {
-        false
+        match self.places.try_borrow() {
+            Ok(all) => match all.get(self.place) {
+                Some(here) => self.taken < here.snapshot_length,
+                None => false,
+            },
+            Err(_) => false,
+        }
     }
 
     fn is_long(&self) -> bool {
-        false
+        match self.places.try_borrow() {
+            Ok(all) => match all.get(self.place) {
+                Some(here) => here.entries.len() >= self.long_from,
+                None => false,
+            },
+            Err(_) => false,
+        }
     }
 
-    fn begin_compaction(&mut self, _snapshot: &[Entry]) -> Result<u64, LogError> {
-        Err(LogError::Failed)
+    fn compact(&mut self, snapshot: &[Entry]) -> Result<(), LogError> {
+        if !self.is_held {
+            return Err(LogError::Failed);
+        }
+        let Ok(None) = self.unread() else {
+            return Err(LogError::Failed);
+        };
+        self.put_place(snapshot)?;
+        self.place = self.place.saturating_add(1);
+        self.taken = snapshot.len();
+        self.is_shown = false;
+        Ok(())
     }
 
-    fn finish_compaction(&mut self) -> Result<(), LogError> {
-        Err(LogError::Failed)
-    }
-
-    fn abandon_compaction(&mut self) {}
+    fn put_off_compaction(&mut self) {}
 }

@@ -8,7 +8,7 @@ use Rattle.wulameron_serve.specs.Explained.{ServesLogExplained}
 use Rattle.wulameron_serve.proofs.explained.serve_log_explained.Goals as goal
 
 abbrev fresh : {L : Type 0} → L → ℕ → List ℕ → JournalState L
-fresh log counter nodes = record { world = empty_world counter; log = log; nodes = nodes; is_over = false }
+fresh log counter nodes = record { world = empty_world counter; log = log; nodes = nodes; is_over = false; is_lost = false }
 
 pub serve_traced-requires-clause-agrees : goal.serve_traced-requires-clause-agrees
 serve_traced-requires-clause-agrees g c =

@@ -8,7 +8,7 @@ use Rattle.wulameron_serve.specs.Served.{ServesLog}
 use Rattle.wulameron_serve.proofs.run.serve_log.Goals as goal
 
 abbrev fresh : {L : Type 0} → L → ℕ → List ℕ → JournalState L
-fresh log counter nodes = record { world = empty_world counter; log = log; nodes = nodes; is_over = false }
+fresh log counter nodes = record { world = empty_world counter; log = log; nodes = nodes; is_over = false; is_lost = false }
 
 pub serve-ended-requires-clause-agrees : goal.serve-ended-requires-clause-agrees
 serve-ended-requires-clause-agrees g c =
