@@ -3,6 +3,8 @@
 mod courses;
 mod handles;
 mod list_log;
+mod placed_log;
+mod places;
 mod recording;
 mod schedules;
 mod support;

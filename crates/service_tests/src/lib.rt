@@ -10,8 +10,9 @@
 //! listing, the counter, the skipped steps and the waiting batches are the same after each command.
 //!
 //! A journal answers, lists and appends as the plain table to which the same accesses are made (`journals`): in 2,000
-//! schedules drawn by chance, and where two to four processes share one list, after each of whose calls all list the
-//! same. A course leads from a world to a later one.
+//! schedules drawn by chance, and where two to four processes share one log, after each of whose calls all list the
+//! same, also where they compact it. A process that finds a log of known entries moved comes to what stands there, or is
+//! over where that has an own node's entry. A course leads from a world to a later one.
 #![tactic(auto)]
 
 #[cfg(test)]
