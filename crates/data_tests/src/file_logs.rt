@@ -404,27 +404,28 @@ fn take_all(log: &mut Handle<'_>) -> Result<u32, LogError> {
     Err(LogError::Failed)
 }
 
-/// Holds the log, takes over all that is there, and begins a compaction to one lock.
-fn begin(log: &mut Handle<'_>) -> Result<u64, LogError> {
+/// Holds the log, takes over all that is there, and compacts it to one lock.
+fn compact_held(log: &mut Handle<'_>) -> Result<(), LogError> {
     log.hold()?;
     take_all(log)?;
-    log.begin_compaction(&[lock()])
+    log.compact(&[lock()])
 }
 
 /// The same of a log that is held already, which is asked to hold it once more.
-fn begin_held(log: &mut Handle<'_>) -> Result<u64, LogError> {
+fn compact_again(log: &mut Handle<'_>) -> Result<(), LogError> {
     let _ = log.hold();
     take_all(log)?;
-    log.begin_compaction(&[lock()])
+    log.compact(&[lock()])
 }
 
-/// Compacts the log to one lock, and lets go of it. Gives how many entries were read of the new file.
-fn compact(log: &mut Handle<'_>) -> Result<u32, LogError> {
-    begin(log)?;
+/// Compacts the log to one lock, and lets go of it. Gives where the handle stands in the new file, and how many entries
+/// it reads there.
+fn compact(log: &mut Handle<'_>) -> Result<(u64, u32), LogError> {
+    compact_held(log)?;
+    let position = log.position();
     let count = take_all(log)?;
-    log.finish_compaction()?;
     log.let_go();
-    Ok(count)
+    Ok((position, count))
 }
 
 /// What a handle answers at a mark, and how it stands: whether the next entry is one of a snapshot, what comes, and
@@ -448,13 +449,13 @@ fn sent_on(
     (moved, counter, [before, after], [first, second])
 }
 
-/// What one handle reads of its new file, how another one is sent on, and whether the file holds the snapshot and what
-/// that one appends.
+/// Where one handle stands in its new file and how many entries it reads there, how another one is sent on, and whether
+/// the file holds the snapshot and what both append.
 fn compacted(
     rt: &HostRuntime,
 ) -> Option<
     (
-        u32,
+        (u64, u32),
         (
             Result<Option<bool>, LogError>,
             Result<u64, LogError>,
@@ -470,12 +471,14 @@ fn compacted(
     second.hold().ok()?;
     take_all(&mut second).ok()?;
     second.let_go();
-    let count = compact(&mut first).ok()?;
+    let stands = compact(&mut first).ok()?;
     let sent = sent_on(&mut second);
+    append(&mut first).ok()?;
+    take_two(&mut second)[1].ok()?;
     append(&mut second).ok()?;
-    let same = holds(rt, &path, &[&SNAPSHOT_HEADER, &LOCK, &LOCK])?;
+    let same = holds(rt, &path, &[&SNAPSHOT_HEADER, &LOCK, &LOCK, &LOCK])?;
     fs::remove_file(rt, path.as_str()).ok()?;
-    Some((count, sent, same))
+    Some((stands, sent, same))
 }
 
 #[test]
@@ -486,7 +489,7 @@ fn who_has_the_old_file_is_sent_on(rt: HostRuntime) {
         [true, false],
         [Ok(Some(true)), Ok(None)],
     );
-    assert_same(&rt, compacted(&rt), Some((1, sent, true)));
+    assert_same(&rt, compacted(&rt), Some(((101, 0), sent, true)));
 }
 
 /// What a handle takes over that was opened after a compaction, how many bytes its header's snapshot has, and whether
@@ -561,42 +564,43 @@ fn what_is_left_beside_doesnt_disturb(rt: HostRuntime) {
     assert_same(&rt, compacted_over_link(&rt), Some((true, true, true)));
 }
 
-/// How a compaction of a file of so many locks is refused, or which counter it has; and whether the file, to which one
-/// lock is appended then, has one more.
-fn tried_to_begin(
+/// What a compaction of a file of so many locks answers, by what it is refused, and how long the file is, to which one
+/// lock is appended then, with nothing beside it.
+fn tried_to_compact(
     rt: &HostRuntime,
     locks: usize,
-) -> Option<(Result<u64, LogError>, Option<FileFault>, bool)> {
+) -> Option<(Result<(), LogError>, Option<FileFault>, u64)> {
     let path = long_file(rt, locks)?;
     let mut log = open(rt, &path, Sharing::User).ok()?;
-    let answer = begin(&mut log);
-    log.abandon_compaction();
+    let answer = compact_held(&mut log);
     log.append(&lock()).ok()?;
     let fault = log.fault();
     let length = fs::metadata(rt, path.as_str()).ok()?.len();
     let left = fs::exists(rt, beside(rt, &path)?.as_str()).ok()?;
     fs::remove_file(rt, path.as_str()).ok()?;
-    let wanted = 48 + 53 * (locks as u64 % 100 + 1);
-    Some((answer, fault, length == wanted && !left))
+    if left {
+        return None;
+    }
+    Some((answer, fault, length))
 }
 
 #[test]
 fn a_compaction_saves_much_or_is_refused(rt: HostRuntime) {
-    let little = (Err(LogError::Failed), None, true);
+    let little = (Err(LogError::Failed), None, 843);
     // Eight times 101 are 808 bytes: 14 locks make 790, and 15 make 843.
-    assert_same(&rt, tried_to_begin(&rt, 14), Some(little));
-    assert_same(&rt, tried_to_begin(&rt, 15), Some((Ok(0), None, true)));
+    assert_same(&rt, tried_to_compact(&rt, 14), Some(little));
+    assert_same(&rt, tried_to_compact(&rt, 15), Some((Ok(()), None, 154)));
 }
 
 /// How a compaction is refused where a folder has the path of its file, and why the log refused the last call, after a
 /// handle that holds it has been refused that.
-fn met_by_folder(rt: &HostRuntime) -> Option<(Result<u64, LogError>, Option<FileFault>)> {
+fn met_by_folder(rt: &HostRuntime) -> Option<(Result<(), LogError>, Option<FileFault>)> {
     let path = long_file(rt, 15)?;
     let folder = beside(rt, &path)?;
     fs::create_dir(rt, folder.as_str()).ok()?;
     let mut log = open(rt, &path, Sharing::User).ok()?;
     log.hold().ok()?;
-    let answer = begin_held(&mut log);
+    let answer = compact_again(&mut log);
     fs::remove_dir(rt, folder.as_str()).ok()?;
     fs::remove_file(rt, path.as_str()).ok()?;
     Some((answer, log.fault()))
@@ -608,30 +612,48 @@ fn a_refused_compaction_is_no_fault(rt: HostRuntime) {
     assert_same(&rt, met_by_folder(&rt), Some(stays));
 }
 
-/// What a handle refuses within a compaction and by what, and where it stands then.
-fn within(rt: &HostRuntime) -> Option<([Option<FileFault>; 3], bool, u64)> {
+/// What a handle answers that compacts before it holds the log, before it has read all, and then. And whether the log
+/// that stayed can be read to its end, by how many entries.
+fn compacted_early(rt: &HostRuntime) -> Option<([Result<(), LogError>; 3], u32)> {
     let path = long_file(rt, 15)?;
     let mut log = open(rt, &path, Sharing::User).ok()?;
-    begin(&mut log).ok()?;
-    let _ = log.append(&lock());
-    let appended = log.fault();
-    let _ = log.finish_compaction();
-    let unread = log.fault();
-    let _ = log.finish_compaction();
-    let found = [appended, unread, log.fault()];
-    let left = fs::exists(rt, beside(rt, &path)?.as_str()).ok()?;
+    let free = log.compact(&[lock()]);
+    log.hold().ok()?;
+    let unread = log.compact(&[lock()]);
+    let count = take_all(&mut log).ok()?;
+    let read = log.compact(&[lock()]);
     fs::remove_file(rt, path.as_str()).ok()?;
-    Some((found, left, log.position()))
+    Some(([free, unread, read], count))
 }
 
 #[test]
-fn a_compaction_is_read_before_it_is_finished(rt: HostRuntime) {
-    let faults = [
-        Some(FileFault::Compacting),
-        Some(FileFault::Unread),
-        Some(FileFault::NotCompacting),
-    ];
-    assert_same(&rt, within(&rt), Some((faults, false, 843)));
+fn a_log_is_held_and_read_before_it_is_compacted(rt: HostRuntime) {
+    let answers = [Err(LogError::Failed), Err(LogError::Failed), Ok(())];
+    assert_same(&rt, compacted_early(&rt), Some((answers, 15)));
+}
+
+/// What a handle answers whose path a folder has, by what, and where it stands then. And whether its file ends without a
+/// mark, and nothing is beside it.
+fn moved_to_folder(
+    rt: &HostRuntime,
+) -> Option<(Result<(), LogError>, Option<FileFault>, u64, bool)> {
+    let path = long_file(rt, 15)?;
+    let mut log = open(rt, &path, Sharing::User).ok()?;
+    let kept = format!(in rt.alloc(); "{path}.kept").ok()?;
+    fs::rename(rt, path.as_str(), kept.as_str()).ok()?;
+    fs::create_dir(rt, path.as_str()).ok()?;
+    let answer = compact_held(&mut log);
+    let length = fs::metadata(rt, kept.as_str()).ok()?.len();
+    let left = fs::exists(rt, beside(rt, &path)?.as_str()).ok()?;
+    fs::remove_dir(rt, path.as_str()).ok()?;
+    fs::remove_file(rt, kept.as_str()).ok()?;
+    Some((answer, log.fault(), log.position(), length == 843 && !left))
+}
+
+#[test]
+fn a_log_that_cannot_move_stays(rt: HostRuntime) {
+    let stays = (Err(LogError::Failed), Some(FileFault::IsAFolder), 843, true);
+    assert_same(&rt, moved_to_folder(&rt), Some(stays));
 }
 
 /// How a handle is sent to a path that a file of this header has now, by what it is refused, and what it takes over of
@@ -719,7 +741,7 @@ fn is_long(rt: &HostRuntime, locks: usize, wanted: usize) -> Option<[bool; 2]> {
     log.hold().ok()?;
     take_all(&mut log).ok()?;
     let before = log.is_long();
-    if log.begin_compaction(&lock_list(rt, wanted)?).is_ok() {
+    if log.compact(&lock_list(rt, wanted)?).is_ok() {
         return None;
     }
     let after = log.is_long();
@@ -732,6 +754,27 @@ fn a_long_file_is_tried_once(rt: HostRuntime) {
     // 1,235 locks make 65,503 bytes, and 1,236 make 65,556.
     assert_same(&rt, is_long(&rt, 1_235, 200), Some([false, false]));
     assert_same(&rt, is_long(&rt, 1_236, 200), Some([true, false]));
+}
+
+/// Whether a held file of so many locks is long, after a compaction of a shorter one was put off.
+fn is_long_later(rt: &HostRuntime, locks: usize) -> Option<bool> {
+    let path = long_file(rt, 1_236)?;
+    let mut log = open(rt, &path, Sharing::User).ok()?;
+    log.hold().ok()?;
+    log.put_off_compaction();
+    log.let_go();
+    put_locks(rt, &path, &HEADER, locks)?;
+    log.hold().ok()?;
+    let is_long = log.is_long();
+    fs::remove_file(rt, path.as_str()).ok()?;
+    Some(is_long)
+}
+
+#[test]
+fn a_compaction_is_put_off_by_64_kib(rt: HostRuntime) {
+    // 65,536 bytes more than 65,556 are 131,092: 2,472 locks make 131,064, and 2,473 make 131,117.
+    assert_same(&rt, is_long_later(&rt, 2_472), Some(false));
+    assert_same(&rt, is_long_later(&rt, 2_473), Some(true));
 }
 
 /// Whether a file of so many locks, of which 200 are its snapshot, is long for a handle that has opened it, and after it
@@ -752,9 +795,7 @@ fn is_long_found(rt: &HostRuntime, count: usize) -> Option<[bool; 2]> {
 fn compact_to_many(rt: &HostRuntime, log: &mut Handle<'_>) -> Option<()> {
     log.hold().ok()?;
     take_all(log).ok()?;
-    log.begin_compaction(&lock_list(rt, 200)?).ok()?;
-    take_all(log).ok()?;
-    log.finish_compaction().ok()?;
+    log.compact(&lock_list(rt, 200)?).ok()?;
     log.let_go();
     Some(())
 }

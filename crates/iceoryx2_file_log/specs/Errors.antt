@@ -57,8 +57,6 @@ fault_text fault.Unsure = Some (codes "a failed append may stand in the log")
 fault_text fault.Moved = Some (codes "the log has moved")
 fault_text fault.AnotherLog = Some (codes "is another log")
 fault_text fault.NothingSaved = Some (codes "a compaction would save too little")
-fault_text fault.Compacting = Some (codes "a compaction was begun")
-fault_text fault.NotCompacting = Some (codes "no compaction was begun")
 fault_text (fault.Failed kind) = None
 
 -- the path, and why its file refused

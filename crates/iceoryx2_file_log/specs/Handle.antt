@@ -21,23 +21,16 @@ use Rattle.iceoryx2_file_log.specs.Remainder.{IsTorn}
 use Rattle.iceoryx2_file_log.specs.Compaction.{IsMark, first_tried, later, snapshot_end}
 use Rattle.iceoryx2_file_log.specs.Place.{Place, start, left, held, cut, appended, let_go_of, state_after}
 
--- Where a handle stood before the compaction that it has begun.
-pub record Former : Type 0 where
-  pub header : Header
-  pub cursor : Place
-
 -- What a handle is seen as.
 pub record HandleFacts : Type 0 where
   pub path : List ℕ
   pub options : FileLogOptions
   pub header : Header
   pub cursor : Place
-  -- why the log refused the last call that it refused, but for a compaction that was not begun
+  -- why the log refused the last call that it refused, except for a compaction that was declined
   pub fault : Option FileFault
   -- the length of the file from which the next compaction is tried
   pub tries_from : ℕ
-  -- where it stood before, while a compaction is begun and not ended
-  pub former : Option Former
   -- whether it has the lock of the file in which it stands
   pub is_locked : Bool
 
@@ -48,12 +41,7 @@ HasLock Held is_locked = is_locked ≡ true
 HasLock state.Unsure is_locked = Unit {0}
 HasLock (state.Damaged at) is_locked = Unit {0}
 
--- While a compaction is begun it has the locks of both files, and the one where it stood before is held.
-abbrev pub HasLocks : State → Bool → Option Former → Type 0
-HasLocks s is_locked None = HasLock s is_locked
-HasLocks s is_locked (Some was) = HasLock s is_locked × ((was.cursor.state ≡ Held) × (is_locked ≡ true))
-
--- of the log with this header in the file of this path: nothing is taken over of it, and no compaction is begun
+-- of the log with this header in the file of this path: nothing is taken over of it
 abbrev pub new_handle : (path : List ℕ) → FileLogOptions → Header → HandleFacts
 new_handle path options h = record {
   path = path;
@@ -62,7 +50,6 @@ new_handle path options h = record {
   cursor = start HEADER_LENGTH;
   fault = None;
   tries_from = first_tried h;
-  former = None;
   is_locked = false;
 }
 
@@ -135,19 +122,6 @@ pub record Appends (e : Entry) (old new : Place) : Type 0 where
   pub all_read : old.file_length ≡ old.position
   pub is : new ≡ appended (length form) old
 
--- with the compaction given up that was begun, if one was
-abbrev pub back_in : HandleFacts → Option Former → HandleFacts
-back_in f None = f
-back_in f (Some was) = record f {
-  header = was.header;
-  cursor = was.cursor;
-  tries_from = later was.cursor.file_length;
-  former = None;
-}
-
-abbrev pub abandoned : HandleFacts → HandleFacts
-abandoned f = back_in f f.former
-
 -- with the next compaction tried when the file has 64 KiB more
 abbrev pub postponed : HandleFacts → HandleFacts
 postponed f = record f { tries_from = later f.cursor.file_length }
@@ -158,7 +132,7 @@ freed f = record f { cursor = let_go_of f.cursor; is_locked = false }
 
 -- It was let go of for a pause, or nothing changed.
 abbrev pub Pauses : Bool → HandleFacts → HandleFacts → Type 0
-Pauses true old new = new ≡ freed (abandoned old)
+Pauses true old new = new ≡ freed old
 Pauses false old new = new ≡ old
 
 -- ---- what its parts leave

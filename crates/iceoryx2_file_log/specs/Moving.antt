@@ -1,26 +1,15 @@
 -- What the calls of a handle leave by which a log goes on in another file.
-use Rattle.std.specs.Prelude.{ℕ, ◌≡◌, ◌≤◌, List, length, Option, Some, None, Result, Ok, Err}
+use Rattle.std.specs.Prelude.{ℕ, ◌≡◌, ◌≤◌, ◌⊎◌, List, length, Some, Result, Ok, Err}
 use Rattle.iceoryx2_log.specs.declared.entry.Entry.{Entry}
 use Rattle.iceoryx2_log.specs.declared.log.LogError.{LogError}
 use Rattle.iceoryx2_file_log.specs.declared.error.FileFault.{FileFault}
-use Rattle.iceoryx2_file_log.specs.declared.error.FileFault.TheVariants as fault
 use Rattle.iceoryx2_file_log.specs.declared.header.TheConstants.{HEADER_LENGTH}
 use Rattle.iceoryx2_file_log.specs.declared.header.Header.{Header}
-use Rattle.iceoryx2_file_log.specs.declared.cursor.State.{State}
 use Rattle.iceoryx2_file_log.specs.declared.cursor.State.TheVariants.{Held}
 use Rattle.iceoryx2_file_log.specs.Errors.{log_error_of}
-use Rattle.iceoryx2_file_log.specs.Compaction.{IsSnapshot, IsWorth, TriesAgain, snapshot_end, first_tried}
-use Rattle.iceoryx2_file_log.specs.Place.{Place, start, held, state_after, why_not_held}
-use Rattle.iceoryx2_file_log.specs.Handle.{Former, HandleFacts, abandoned}
-
--- why the handle can't append, go elsewhere or begin a compaction, by why it isn't held and where it stood before
-abbrev pub why_not_alone_by : Option FileFault → Option Former → Option FileFault
-why_not_alone_by (Some why) former = Some why
-why_not_alone_by None (Some was) = Some fault.Compacting
-why_not_alone_by None None = None
-
-abbrev pub why_not_alone : State → Option Former → Option FileFault
-why_not_alone s former = why_not_alone_by (why_not_held s) former
+use Rattle.iceoryx2_file_log.specs.Compaction.{IsSnapshot, IsWorth, TriesAgain, first_tried}
+use Rattle.iceoryx2_file_log.specs.Place.{start, held, state_after}
+use Rattle.iceoryx2_file_log.specs.Handle.{HandleFacts, postponed}
 
 -- A refused call answers by why it was refused, which is kept, and nothing else changes.
 pub record OnlyRefuses (e : LogError) (old new : HandleFacts) : Type 0 where
@@ -28,22 +17,25 @@ pub record OnlyRefuses (e : LogError) (old new : HandleFacts) : Type 0 where
   pub answer : e ≡ log_error_of why
   pub is : new ≡ record old { fault = Some why }
 
--- held before the first entry of a file of this length
-abbrev pub at_beginning : ℕ → Place
-at_beginning file_length = held file_length (start HEADER_LENGTH)
+-- held at this place of the file of this header and length
+abbrev pub stood : (position : ℕ) → Header → (file_length : ℕ) → HandleFacts → HandleFacts
+stood position h file_length f = record f {
+  header = h;
+  cursor = held file_length (start position);
+  tries_from = first_tried h;
+}
 
 -- It goes to the file that has the path now, which is of the same log, and stands before its first entry.
 pub record Rejoins (counter : ℕ) (old new : HandleFacts) : Type 0 where
   pub was_held : old.cursor.state ≡ Held
-  pub alone : old.former ≡ None
   pub same_log : new.header.name ≡ old.header.name
   pub begins : counter ≡ new.header.counter
   pub fits : HEADER_LENGTH ≤ new.cursor.file_length
-  pub is : new ≡ record old {
-    header = new.header;
-    cursor = at_beginning new.cursor.file_length;
-    tries_from = first_tried new.header;
-  }
+  pub is : new ≡ stood HEADER_LENGTH new.header new.cursor.file_length old
+
+-- held at the end of the file of this header and these bytes
+abbrev pub ended : Header → List ℕ → HandleFacts → HandleFacts
+ended h bytes f = stood (length bytes) h (length bytes) f
 
 -- It is refused by such an error.
 abbrev pub IsErrWith : {X E : Type 0} → Result X E → (E → Type 0) → Type 0
@@ -52,62 +44,45 @@ IsErrWith (Err e) is = is e
 
 -- ---- a compaction
 
--- It is held, nothing is unread, and none is begun.
-pub record CanBegin (f : HandleFacts) : Type 0 where
+-- It may go on in this file of these entries: it is held, nothing is unread, and the file is worth it.
+pub record MayCompact (entries : List Entry) (f : HandleFacts) (h : Header) (bytes : List ℕ) : Type 0 where
   pub was_held : f.cursor.state ≡ Held
-  pub alone : f.former ≡ None
   pub all_read : f.cursor.file_length ≡ f.cursor.position
-
--- It may begin one to this file of these entries, which is worth it.
-pub record MayBegin (entries : List Entry) (f : HandleFacts) (h : Header) (bytes : List ℕ) : Type 0 where
-  pub can : CanBegin f
   pub snapshot : IsSnapshot f.header.name entries h bytes
   pub worth : IsWorth f.cursor.file_length (length bytes)
 
--- It stands before the first entry of the new file, which has just these entries, and knows where it stood.
-pub record BeginsCompaction (entries : List Entry) (counter : ℕ) (old new : HandleFacts) : Type 0 where
+-- It stands at the end of the new file, which has just these entries, and holds it.
+pub record Compacts (entries : List Entry) (old new : HandleFacts) : Type 0 where
   pub bytes : List ℕ
-  pub may : MayBegin entries old new.header bytes
-  pub begins : counter ≡ new.header.counter
-  pub is : new ≡ record old {
-    header = new.header;
-    cursor = at_beginning (length bytes);
-    former = Some (record { header = old.header; cursor = old.cursor });
-  }
+  pub may : MayCompact entries old new.header bytes
+  pub is : new ≡ ended new.header bytes old
 
--- A refused one answers by why it was refused, and is tried again at another length. Nothing else changes: the log goes
--- on, so there is no fault that anybody has to know.
-pub record RefusesCompaction (entries : List Entry) (e : LogError) (old new : HandleFacts) : Type 0 where
+-- It is declined for this reason, and tried again at another length. Nothing else changes: the log goes on, so there is
+-- no fault that anybody has to know.
+pub record Declines (entries : List Entry) (e : LogError) (old new : HandleFacts) : Type 0 where
   pub why : FileFault
   pub answer : e ≡ log_error_of why
   pub again : TriesAgain why old.header.name entries old.cursor.file_length new.tries_from
   pub is : new ≡ record old { tries_from = new.tries_from }
 
--- It is held at the end of the snapshot, where the file ends.
-pub record HasReadSnapshot (p : Place) (h : Header) : Type 0 where
-  pub was_held : p.state ≡ Held
-  pub whole : p.position ≡ snapshot_end h
-  pub all_read : p.file_length ≡ p.position
-
--- It may be finished: one was begun, and its whole snapshot was read.
-pub record MayFinish (f : HandleFacts) : Type 0 where
-  pub was : Former
-  pub was_begun : f.former ≡ Some was
-  pub has_read : HasReadSnapshot f.cursor f.header
-
--- It stands where it stood, at the end of the snapshot, in the file that has the path from now on.
-pub record Finishes (old new : HandleFacts) : Type 0 where
-  pub may : MayFinish old
-  pub is : new ≡ record old { tries_from = first_tried old.header; former = None }
-
--- It stands in the old file again, and refuses.
-abbrev pub refused_in : FileFault → HandleFacts → HandleFacts
-refused_in why f = record f {
+-- It stands where it stood, refuses for this reason, which is kept, and the next one is tried later.
+abbrev pub stayed : FileFault → HandleFacts → HandleFacts
+stayed why f = postponed (record f {
   cursor = record f.cursor { state = state_after why f.cursor.state };
   fault = Some why;
-}
+})
 
-pub record RefusesFinish (e : LogError) (old new : HandleFacts) : Type 0 where
+pub record Stays (e : LogError) (old new : HandleFacts) : Type 0 where
   pub why : FileFault
   pub answer : e ≡ log_error_of why
-  pub is : new ≡ refused_in why (abandoned old)
+  pub is : new ≡ stayed why old
+
+-- The new file was made, and the log did not move there.
+pub record FailsToMove (entries : List Entry) (e : LogError) (old new : HandleFacts) : Type 0 where
+  pub h : Header
+  pub bytes : List ℕ
+  pub may : MayCompact entries old h bytes
+  pub stays : Stays e old new
+
+abbrev pub RefusesCompaction : List Entry → LogError → HandleFacts → HandleFacts → Type 0
+RefusesCompaction entries e old new = Declines entries e old new ⊎ FailsToMove entries e old new

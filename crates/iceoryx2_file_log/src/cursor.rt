@@ -1,6 +1,7 @@
 //! Where a handle stands in the file of its log.
 
 ghost use Rattle.std.specs.Prelude.{◌≡◌, ◌++◌, ◌+◌, ◌<◌, ◌≤◌, ◌^◌, ◌↔◌, length, IsTrue, OnOk, OnErr};
+ghost use Rattle.std.specs.Prelude.{◌≢◌, None, IfSome};
 ghost use Rattle.iceoryx2_file_log.specs.declared.error.FileFault.TheVariants as fault;
 ghost use Rattle.iceoryx2_file_log.specs.declared.cursor.State.{State};
 ghost use Rattle.iceoryx2_file_log.specs.declared.cursor.State.TheVariants as state;
@@ -165,7 +166,9 @@ impl Cursor {
 
     /// Why the handle can't read or append.
     pub fn why_not_held(&self) -> Option<FileFault>
-        ensures { result ≡ why_not_held self.now.state }
+        ensures why { result ≡ why_not_held self.now.state }
+        ensures held { result ≡ None → self.now.state ≡ state.Held }
+        ensures other { IfSome result (λ why. why ≢ fault.NothingSaved) }
     {
         match self.state {
             State::Free => Some(FileFault::NotHeld),

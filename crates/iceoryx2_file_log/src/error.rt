@@ -50,10 +50,6 @@ pub enum FileFault {
     AnotherLog,
     /// The file has fewer than eight times the bytes that it would have after a compaction.
     NothingSaved,
-    /// A compaction was begun, and neither finished nor abandoned yet.
-    Compacting,
-    /// No compaction was begun.
-    NotCompacting,
     /// The system refused for another reason.
     Failed { kind: ErrorKind },
 }
@@ -83,8 +79,6 @@ impl fmt::Display for FileFault {
             FileFault::Moved => write!(f, "the log has moved"),
             FileFault::AnotherLog => write!(f, "is another log"),
             FileFault::NothingSaved => write!(f, "a compaction would save too little"),
-            FileFault::Compacting => write!(f, "a compaction was begun"),
-            FileFault::NotCompacting => write!(f, "no compaction was begun"),
             FileFault::Failed { kind } => write!(f, "{kind}"),
         }
     }

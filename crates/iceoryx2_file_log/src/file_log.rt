@@ -2,12 +2,13 @@
 //!
 //! What a file holds is known to no contract, so `contents` claims nothing here. What is proved is what each call
 //! makes of where the handle stands: what was read of the file, what is taken over, that only torn bytes and marks are
-//! cut off, and whether the handle has the lock (`HasLocks`). What it does to the bytes is in `bytes`, over any medium.
+//! cut off, and whether the handle has the lock (`HasLock`). What it does to the bytes is in `bytes`, over any medium.
 //!
-//! A long log is compacted by whoever holds it. It makes a file beside the log's own, with a snapshot, and reads that.
-//! Then the old file gets a mark as its last entry, and the new one gets the path. Whoever still has the old file reads
-//! the mark, and goes to the file that has the path. A process that is killed meanwhile leaves one of both files as the
-//! log: the old one, where a mark that is its last entry is cut off as long as it has the path itself, or the new one.
+//! Whoever holds a long log compacts it by one call. The call makes a file beside the log's own, with a snapshot, reads
+//! the bytes back and compares them. Then the old file gets a mark as its last entry, and the new one gets the path.
+//! Whoever still has the old file reads the mark, and goes to the file that has the path. A process that is killed
+//! meanwhile leaves one of both files as the log: the old one, where a mark that is its last entry is cut off as long as
+//! it has the path itself, or the new one.
 
 ghost use Rattle.std.specs.Prelude.{◌≡◌, ◌≤◌, ◌<◌, ◌⊎◌, ◌↔◌, ◌++◌, List, ℕ, length, None, Some, Ok, Err};
 ghost use Rattle.std.specs.Prelude.{IfOk, IfErr, OnOk, OnErr, IfSome, IsTrue, true, false, nat_lt, string_bytes};
@@ -22,17 +23,14 @@ ghost use Rattle.iceoryx2_file_log.specs.Compaction.{IsLong, snapshot_end, first
 ghost use Rattle.iceoryx2_file_log.specs.Place.{start, left, held, accepted, cut, appended, state_after};
 ghost use Rattle.iceoryx2_file_log.specs.Place.{why_not_free, why_not_held};
 ghost use Rattle.iceoryx2_file_log.specs.Handle.{IsRefused, Holds, Shows, SparesEntries, Appends};
-ghost use Rattle.iceoryx2_file_log.specs.Handle.{ReadsOn, IsFront, IsErrorOf, Pauses, abandoned, postponed, freed};
+ghost use Rattle.iceoryx2_file_log.specs.Handle.{ReadsOn, IsFront, IsErrorOf, Pauses, postponed, freed};
 ghost use Rattle.iceoryx2_file_log.specs.Handle.{IsNoMark, IsPastSnapshot, IsNotAcross, IsSureOfCuts, new_handle};
-ghost use Rattle.iceoryx2_file_log.specs.Moving.{why_not_alone, OnlyRefuses, Rejoins, BeginsCompaction};
-ghost use Rattle.iceoryx2_file_log.specs.Moving.{RefusesCompaction, Finishes, RefusesFinish};
+ghost use Rattle.iceoryx2_file_log.specs.Moving.{OnlyRefuses, Rejoins, Compacts, RefusesCompaction};
 
 mod beside;
 mod compacting;
-mod former;
 mod marking;
 
-use self::former::FormerPlace;
 use self::marking::cut_mark;
 use crate::bytes::{append_at, cut_off, front_at, lock, pause_after};
 use crate::compaction::{
@@ -65,21 +63,19 @@ pub struct FileLog<R> {
     options: FileLogOptions,
     header: Header,
     cursor: Cursor,
-    /// Why the log refused the last call that it refused, but for a compaction that was not begun.
+    /// Why the log refused the last call that it refused, except for a compaction that was declined.
     fault: Option<FileFault>,
     /// When the last wait began.
     wait_start: Option<Instant>,
     /// The length of the file from which the next compaction is tried.
     tries_from: u64,
-    /// Where the handle stood before, while a compaction is begun and not ended.
-    former: Option<FormerPlace>,
     /// Whether this handle has the lock of its file.
     is_locked: bool,
 }
 
 impl<R> Model for FileLog<R> {
     ghost use Rattle.std.specs.Prelude.{string_bytes};
-    ghost use Rattle.iceoryx2_file_log.specs.Handle.{HandleFacts, HasLocks};
+    ghost use Rattle.iceoryx2_file_log.specs.Handle.{HandleFacts, HasLock};
 
     ghost Value = { HandleFacts };
 
@@ -90,11 +86,10 @@ impl<R> Model for FileLog<R> {
       cursor = log.cursor;
       fault = log.fault;
       tries_from = log.tries_from;
-      former = log.former;
       is_locked = log.is_locked;
     } };
 
-    ghost invariant = { λ log. HasLocks log.cursor.state log.is_locked log.former };
+    ghost invariant = { λ log. HasLock log.cursor.state log.is_locked };
 }
 
 impl<R: Drop> Drop for FileLog<R> {
@@ -109,7 +104,6 @@ impl<R: Drop> Drop for FileLog<R> {
             fault: _,
             wait_start: _,
             tries_from: _,
-            former: _,
             is_locked: _,
         } = self;
     }
@@ -230,7 +224,6 @@ impl<R: Files<File = File> + Clock + RandomSource + AllocGlobal + Drop> FileLog<
                 fault: None,
                 wait_start: None,
                 tries_from: first_tried(&header),
-                former: None,
                 is_locked: false,
             }),
             Err(fault) => Err(FileLogError::new(path, fault)),
@@ -265,7 +258,7 @@ impl<R> FileLog<R> {
         self.cursor.position()
     }
 
-    /// Why the log refused the last call that it refused, but for a compaction that was not begun.
+    /// Why the log refused the last call that it refused, except for a compaction that was declined.
     pub fn fault(&self) -> Option<FileFault>
         ensures { result ≡ self.now.fault }
     {
@@ -372,9 +365,9 @@ impl<R: AllocGlobal> FileLog<R> {
         ensures locked { OnOk result (self.old.is_locked ≡ true) }
         ensures err { OnErr result (self.new.cursor ≡ self.old.cursor) }
         ensures same { self.new ≡ record self.old { cursor = self.new.cursor } }
-        ensures not_alone { IfSome (why_not_alone self.old.cursor.state self.old.former) (λ why. result ≡ Err why) }
+        ensures not_held { IfSome (why_not_held self.old.cursor.state) (λ why. result ≡ Err why) }
     {
-        if let Some(why) = self.why_not_alone() {
+        if let Some(why) = self.cursor.why_not_held() {
             return Err(why);
         }
         if !self.cursor.is_read() {
@@ -457,7 +450,7 @@ impl<R: Files<File = File> + Clock + AllocGlobal> Log for FileLog<R> {
     }
 
     /// Where a part of the entry may stand that could not be taken back, or come back with the power though the options
-    /// synchronize, the handle is used no more. `Failed` while a compaction is begun.
+    /// synchronize, the handle is used no more.
     fn append(&mut self, entry: &Entry) -> Result<(), LogError>
         ensures ok { OnOk result (Appends entry.now self.old.cursor self.new.cursor
             × (self.new.fault ≡ self.old.fault)) }
@@ -465,10 +458,8 @@ impl<R: Files<File = File> + Clock + AllocGlobal> Log for FileLog<R> {
         ensures err { IfErr result (λ e. IsRefused e self.new.fault self.old.cursor.state self.new.cursor.state) }
         ensures kept { OnErr result (self.new.cursor ≡ record self.old.cursor { state = self.new.cursor.state }) }
         ensures same { self.new ≡ record self.old { cursor = self.new.cursor; fault = self.new.fault } }
-        ensures not_held { IfSome (why_not_held self.old.cursor.state)
-            (λ why. (result ≡ Err (log_error_of why)) × (self.new.cursor ≡ self.old.cursor)) }
-        ensures not_alone { IfSome (why_not_alone self.old.cursor.state self.old.former)
-            (λ why. (result ≡ Err (log_error_of why)) × (self.new.fault ≡ Some why)) }
+        ensures not_held { IfSome (why_not_held self.old.cursor.state) (λ why. (result ≡ Err (log_error_of why))
+            × (self.new.cursor ≡ self.old.cursor) × (self.new.fault ≡ Some why)) }
     {
         match self.try_append(entry) {
             Ok(()) => Ok(()),
@@ -476,18 +467,15 @@ impl<R: Files<File = File> + Clock + AllocGlobal> Log for FileLog<R> {
         }
     }
 
-    /// A compaction that is begun is given up before.
     fn let_go(&mut self)
-        ensures { self.new ≡ freed (abandoned self.old) }
+        ensures { self.new ≡ freed self.old }
     {
-        self.go_back();
         let _ = self.file.unlock();
         self.cursor.let_go();
         self.is_locked = false;
     }
 
-    /// False where the wait has taken the time that the options allow, and where the clock refuses. A compaction that
-    /// is begun is given up where the log is let go of.
+    /// False where the wait has taken the time that the options allow, and where the clock refuses.
     fn pause(&mut self, number: u64) -> bool
         ensures { Pauses result self.old self.new }
     {
@@ -499,12 +487,12 @@ impl<R: Files<File = File> + Clock + AllocGlobal> Log for FileLog<R> {
         true
     }
 
-    /// Nothing changes but the fault where it is refused. `Failed` where a compaction is begun, or the file that has
-    /// the path is of another log, and `Busy` where others held it as long as the options allow.
+    /// Nothing changes but the fault where it is refused. `Failed` where the log isn't held, or the file that has the
+    /// path is of another log, and `Busy` where others held it as long as the options allow.
     fn rejoin(&mut self) -> Result<u64, LogError>
         ensures ok { IfOk result (λ counter. Rejoins counter self.old self.new) }
         ensures err { IfErr result (λ e. OnlyRefuses e self.old self.new) }
-        ensures not_alone { IfSome (why_not_alone self.old.cursor.state self.old.former)
+        ensures not_held { IfSome (why_not_held self.old.cursor.state)
             (λ why. (result ≡ Err (log_error_of why)) × (self.new.fault ≡ Some why)) }
     {
         match self.located() {
@@ -527,28 +515,25 @@ impl<R: Files<File = File> + Clock + AllocGlobal> Log for FileLog<R> {
     }
 
     /// It has more than 64 KiB, and as many as the next compaction waits for: eight times those up to the end of its
-    /// snapshot, or what the last one waits for that was refused or given up since this handle found the file.
+    /// snapshot, or what the last one waits for that was refused or put off since this handle found the file.
     fn is_long(&self) -> bool
         ensures { IsTrue result ↔ IsLong self.now.cursor.file_length self.now.tries_from }
     {
         is_long(self.cursor.file_length(), self.tries_from)
     }
 
-    /// `Failed` where one is begun, and where the file has fewer than eight times the bytes that the new one would
-    /// have: then the next is tried when it has so many. After any other error the next is tried 64 KiB later.
-    /// Nothing else changes, and no fault is kept: the log goes on as it is.
-    fn begin_compaction(&mut self, snapshot: &[Entry]) -> Result<u64, LogError>
-        ensures ok { IfOk result (λ counter. BeginsCompaction snapshot.now counter self.old self.new) }
+    /// The handle stands at the end of the new file, behind the snapshot. `Failed` where the log isn't held, an entry
+    /// is unread, or the file has fewer than eight times the bytes that the new one would have: then the next is tried
+    /// when it has so many. After any other error the next is tried 64 KiB later. No fault is kept where no file was
+    /// made: the log goes on as it is. Where the mark could not be taken back from the old file, or the new one may
+    /// lose the path with the power, the handle is used no more.
+    fn compact(&mut self, snapshot: &[Entry]) -> Result<(), LogError>
+        ensures ok { OnOk result (Compacts snapshot.now self.old self.new) }
         ensures err { IfErr result (λ e. RefusesCompaction snapshot.now e self.old self.new) }
-        ensures not_alone { IfSome (why_not_alone self.old.cursor.state self.old.former)
-            (λ why. result ≡ Err (log_error_of why)) }
+        ensures not_held { IfSome (why_not_held self.old.cursor.state) (λ why. result ≡ Err (log_error_of why)) }
     {
         match self.prepared(snapshot) {
-            Ok(place) => {
-                let counter = place.snapshot.header.counter;
-                self.enter(place);
-                Ok(counter)
-            }
+            Ok(place) => self.move_to(place),
             Err(declined) => {
                 self.tries_from = declined.tries_from;
                 Err(log_error(declined.why))
@@ -556,31 +541,10 @@ impl<R: Files<File = File> + Clock + AllocGlobal> Log for FileLog<R> {
         }
     }
 
-    /// `Failed` where none is begun, or the snapshot isn't read to its end. Where the mark could not be taken back from
-    /// the old file, or the new one may lose the path with the power, the handle is used no more.
-    fn finish_compaction(&mut self) -> Result<(), LogError>
-        ensures ok { OnOk result (Finishes self.old self.new) }
-        ensures err { IfErr result (λ e. RefusesFinish e self.old self.new) }
+    /// The next one is tried when the file has 64 KiB more than it has now.
+    fn put_off_compaction(&mut self)
+        ensures { self.new ≡ postponed self.old }
     {
-        match self.give_way() {
-            Ok(()) => {
-                self.former = None;
-                self.tries_from = first_tried(&self.header);
-                Ok(())
-            }
-            Err(why) => {
-                self.go_back();
-                Err(self.refuse(why))
-            }
-        }
-    }
-
-    /// The next one is tried when the file has 64 KiB more than it has now, also where none is begun: so a caller that
-    /// finds no snapshot puts off its next try.
-    fn abandon_compaction(&mut self)
-        ensures { self.new ≡ postponed (abandoned self.old) }
-    {
-        self.go_back();
         self.tries_from = length_later(self.cursor.file_length());
     }
 }

@@ -57,8 +57,6 @@ advice_of file.Unsure = codes "start the program again"
 advice_of file.Moved = codes "try again"
 advice_of file.AnotherLog = codes "start the program again"
 advice_of file.NothingSaved = codes "leave it"
-advice_of file.Compacting = codes "start the program again"
-advice_of file.NotCompacting = codes "start the program again"
 advice_of (file.Failed kind) = codes "see whether its disk works"
 
 -- `None` where the text is the system's own name of what it refused

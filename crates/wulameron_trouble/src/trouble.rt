@@ -70,8 +70,6 @@ pub fn advice(fault: FileFault) -> &'static str
         FileFault::Moved => "try again",
         FileFault::AnotherLog => "start the program again",
         FileFault::NothingSaved => "leave it",
-        FileFault::Compacting => "start the program again",
-        FileFault::NotCompacting => "start the program again",
         FileFault::Failed { kind: _ } => "see whether its disk works",
     }
 }
