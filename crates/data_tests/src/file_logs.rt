@@ -632,8 +632,8 @@ fn a_log_is_held_and_read_before_it_is_compacted(rt: HostRuntime) {
     assert_same(&rt, compacted_early(&rt), Some((answers, 15)));
 }
 
-/// What a handle answers whose path a folder has, by what, and where it stands then. And whether its file ends without a
-/// mark, and nothing is beside it.
+/// What a handle answers that compacts where a folder has its path, by what, and where it stands then. And whether its
+/// file ends without a mark, and nothing is beside it.
 fn moved_to_folder(
     rt: &HostRuntime,
 ) -> Option<(Result<(), LogError>, Option<FileFault>, u64, bool)> {

@@ -6,14 +6,15 @@ ghost use Rattle.iceoryx2_file_log.specs.Memory.{known_of};
 
 use crate::samples::{HEADER, LOCK};
 use crate::support::assert_same;
-use iceoryx2_file_log::bytes::{append_at, front_at, lock};
+use iceoryx2_file_log::bytes::{append_at, front_at, lock, read_back};
 use iceoryx2_file_log::error::FileFault;
 use iceoryx2_file_log::header::HEADER_LENGTH;
 use iceoryx2_file_log::memory::{MemoryFile, NOTHING_REFUSED, Refusals};
 use iceoryx2_file_log::remainder::Front;
 use std::alloc::Global;
+use std::io::ErrorKind;
 use std::process::Abort;
-use std::time::Duration;
+use std::time::{Clock, Duration};
 
 /// These bytes, one part after the other.
 fn bytes_of(rt: &impl Abort, alloc: Global, parts: &[&[u8]]) -> Vec<u8> {
@@ -137,4 +138,27 @@ fn what_a_dead_writer_left_is_torn(rt: HostRuntime) {
     let end = HEADER_LENGTH as u64 + LOCK.len() as u64;
     let found = found_at(&mut file, rt.alloc(), end);
     assert_same(&rt, found, Ok(None));
+}
+
+/// What is answered where a file of a header and an entry is compared with these bytes.
+fn compared<R: Abort + Clock>(rt: &R, alloc: Global, parts: &[&[u8]]) -> Result<(), FileFault> {
+    let mut file = file(rt, alloc, &[], NOTHING_REFUSED);
+    let bytes = bytes_of(rt, alloc, parts);
+    let file_length = lock(rt, &mut file, Duration::from_millis(0))?;
+    read_back(&mut file, &bytes, file_length)
+}
+
+#[test]
+fn what_was_written_is_read_back_by_short_reads(rt: HostRuntime) {
+    let alloc = rt.alloc();
+    let found = [
+        compared(&rt, alloc, &[&HEADER, &LOCK]),
+        compared(&rt, alloc, &[&HEADER, &LOCK[..52], &[9]]),
+        compared(&rt, alloc, &[&HEADER, &LOCK[..52]]),
+        compared(&rt, alloc, &[&HEADER, &LOCK, &LOCK]),
+    ];
+    let refused = Err(FileFault::Failed {
+        kind: ErrorKind::InvalidData,
+    });
+    assert_same(&rt, found, [Ok(()), refused, refused, refused]);
 }

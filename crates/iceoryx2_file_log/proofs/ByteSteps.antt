@@ -3,10 +3,10 @@ use Rattle.std.proofs.Common.{◌≡◌, ℕ, ◌+◌, ◌≤◌, Bool, false, L
 use Rattle.std.proofs.Common.{Option, Some, None, refl, sym, ap, subst, ◌∙◌, append_assoc, length-append, take-append-drop, arith, inl, inr}
 use Rattle.std.specs.Prelude.{IfSome}
 use Rattle.std.proofs.lemmas.List.{append-nil, length-drop, length-take-le, take_all, take_at, drop_at}
-use Rattle.std.proofs.Math.Seq.{drop-append-add}
+use Rattle.std.proofs.Math.Seq.{drop-append-add, take-add}
 use Rattle.iceoryx2_file_log.specs.Place.{Place}
 use Rattle.iceoryx2_file_log.specs.Medium.{Known, Becomes, Keeps, MayChangeFrom, Reads, Writes, WritesSome, CutsTo, Synchronizes, written}
-use Rattle.iceoryx2_file_log.specs.Bytes.{Reading, WritesAll, CutsAll, EndsAt, AppendsBytes, SameBytes}
+use Rattle.iceoryx2_file_log.specs.Bytes.{Reading, WritesAll, CutsAll, EndsAt, AppendsBytes, SameBytes, SameAt}
 
 drop_on : (p n : ℕ) (bytes : List ℕ) → p ≤ length bytes → drop (p + n) bytes ≡ drop n (drop p bytes)
 drop_on p n bytes le =
@@ -46,6 +46,19 @@ pub read_more : (p : Place) (o : Option Known) (at count : ℕ) (out : List ℕ)
 read_more p None at count out f le is reads = f
 read_more p (Some k) at count out f le is reads =
     reading_more p k at count out (omega (arith, le, f.long)) is reads f
+
+-- ---- reading back
+
+-- So many of the first bytes are the same.
+abbrev pub SameUpTo : ℕ → List ℕ → Known → Type 0
+SameUpTo at bytes k = take at k.bytes ≡ take at bytes
+
+pub more_same : (at count : ℕ) (bytes : List ℕ) (o : Option Known) → IfSome o (SameUpTo at bytes)
+    → IfSome o (SameAt at count bytes) → IfSome o (SameUpTo (at + count) bytes)
+more_same at count bytes None front piece = tt
+more_same at count bytes (Some k) front piece =
+    take-add at count k.bytes ∙ ap (λ (x : List ℕ). x ++ take count (drop at k.bytes)) front
+    ∙ ap (λ (x : List ℕ). take at bytes ++ x) piece ∙ sym (take-add at count bytes)
 
 -- ---- writing
 

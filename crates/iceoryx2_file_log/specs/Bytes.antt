@@ -12,6 +12,19 @@ pub record Reading (p : Place) (k : Known) : Type 0 where
   pub more : List ℕ
   pub ahead : drop p.position k.bytes ≡ p.ahead ++ more
 
+-- The handle has the lock, and knows how long the file is.
+pub record IsSoLong (file_length : ℕ) (k : Known) : Type 0 where
+  pub locked : k.locked ≡ true
+  pub long : file_length ≡ length k.bytes
+
+-- The file has the same so many bytes there.
+abbrev pub SameAt : (at count : ℕ) → List ℕ → Known → Type 0
+SameAt at count bytes k = take count (drop at k.bytes) ≡ take count (drop at bytes)
+
+-- The file holds just these bytes.
+abbrev pub Holds : List ℕ → Known → Type 0
+Holds bytes k = k.bytes ≡ bytes
+
 -- All that was written stands there, and is synchronized where that was wanted.
 abbrev pub WritesAll : (at : ℕ) → List ℕ → (synchronizes : Bool) → Known → Known → Type 0
 WritesAll at bytes synchronizes old new =

@@ -6,8 +6,9 @@ ghost use Rattle.iceoryx2_file_log.specs.Errors.{IsOfFile};
 ghost use Rattle.iceoryx2_file_log.specs.Compaction.{MayBeCut};
 ghost use Rattle.iceoryx2_file_log.specs.Place.{left, cut, appended};
 ghost use Rattle.iceoryx2_file_log.specs.Handle.{ReadsOn, IsFront, IsSureOfCuts};
-ghost use Rattle.iceoryx2_file_log.specs.Medium.{Becomes, IsFree, Grants, MayChangeFrom, WritesSome};
+ghost use Rattle.iceoryx2_file_log.specs.Medium.{Becomes, IsFree, IsLocked, Grants, MayChangeFrom, WritesSome};
 ghost use Rattle.iceoryx2_file_log.specs.Bytes.{Reading, WritesAll, CutsAll, EndsAt, AppendsBytes, SameBytes, IsTakenBack};
+ghost use Rattle.iceoryx2_file_log.specs.Bytes.{IsSoLong, SameAt, Holds};
 
 use crate::cursor::Cursor;
 use crate::error::{FileFault, system_fault};
@@ -134,6 +135,54 @@ pub fn front_at<M: Medium>(
     Err(FileFault::Failed {
         kind: ErrorKind::Interrupted,
     })
+}
+
+/// How many bytes the file has from there on that are the same as these there, as far as the piece takes them. 0 where
+/// others come.
+fn same_at<M: Medium>(
+    medium: &mut M,
+    bytes: &[u8],
+    at: usize,
+    piece: &mut [u8],
+) -> Result<usize, FileFault>
+    requires locked { IfSome (M.known medium.old) IsLocked }
+    requires room { at + length piece.old ≤ length bytes.now }
+    ensures within { IfOk result (λ count. at + count ≤ length bytes.now) }
+    ensures stands { IfOk result (λ count. IfSome (M.known medium.old) (SameAt at count bytes.now)) }
+    ensures file { IfErr result IsOfFile }
+    ensures same { M.known medium.new ≡ M.known medium.old }
+{
+    let count = medium.read_at(piece, at as u64)?;
+    if piece[..count] != bytes[at..at + count] {
+        return Ok(0);
+    }
+    Ok(count)
+}
+
+/// Reads back what the file holds, which is so long, and compares it with these bytes. `Failed` by `InvalidData` where
+/// it holds others.
+pub fn read_back<M: Medium>(medium: &mut M, bytes: &[u8], file_length: u64) -> Result<(), FileFault>
+    requires { IfSome (M.known medium.old) (IsSoLong file_length) }
+    ensures ok { OnOk result (IfSome (M.known medium.old) (Holds bytes.now)) }
+    ensures err { IfErr result IsOfFile }
+    ensures same { M.known medium.new ≡ M.known medium.old }
+{
+    let mut piece = [0u8; PIECE_LENGTH];
+    let mut at = 0;
+    for _ in 0..bytes.len() {
+        let wanted = (bytes.len() - at).min(PIECE_LENGTH);
+        let count = same_at(medium, bytes, at, &mut piece[..wanted])?;
+        if count == 0 {
+            break;
+        }
+        at += count;
+    }
+    if at != bytes.len() || file_length != bytes.len() as u64 {
+        return Err(FileFault::Failed {
+            kind: ErrorKind::InvalidData,
+        });
+    }
+    Ok(())
 }
 
 // ---- writing and cutting off

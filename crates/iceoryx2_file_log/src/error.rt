@@ -50,7 +50,7 @@ pub enum FileFault {
     AnotherLog,
     /// The file has fewer than eight times the bytes that it would have after a compaction.
     NothingSaved,
-    /// The system refused for another reason.
+    /// The system refused for another reason. With `InvalidData` a new file holds other bytes than were written to it.
     Failed { kind: ErrorKind },
 }
 

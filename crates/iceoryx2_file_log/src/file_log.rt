@@ -7,8 +7,8 @@
 //! Whoever holds a long log compacts it by one call. The call makes a file beside the log's own, with a snapshot, reads
 //! the bytes back and compares them. Then the old file gets a mark as its last entry, and the new one gets the path.
 //! Whoever still has the old file reads the mark, and goes to the file that has the path. A process that is killed
-//! meanwhile leaves one of both files as the log: the old one, where a mark that is its last entry is cut off as long as
-//! it has the path itself, or the new one.
+//! meanwhile leaves one of both files as the log: the old one, where a mark that is its last entry is cut off as long
+//! as it has the path itself, or the new one.
 
 ghost use Rattle.std.specs.Prelude.{◌≡◌, ◌≤◌, ◌<◌, ◌⊎◌, ◌↔◌, ◌++◌, List, ℕ, length, None, Some, Ok, Err};
 ghost use Rattle.std.specs.Prelude.{IfOk, IfErr, OnOk, OnErr, IfSome, IsTrue, true, false, nat_lt, string_bytes};
@@ -523,10 +523,11 @@ impl<R: Files<File = File> + Clock + AllocGlobal> Log for FileLog<R> {
     }
 
     /// The handle stands at the end of the new file, behind the snapshot. `Failed` where the log isn't held, an entry
-    /// is unread, or the file has fewer than eight times the bytes that the new one would have: then the next is tried
-    /// when it has so many. After any other error the next is tried 64 KiB later. No fault is kept where no file was
-    /// made: the log goes on as it is. Where the mark could not be taken back from the old file, or the new one may
-    /// lose the path with the power, the handle is used no more.
+    /// is unread, the new file holds other bytes than were written to it, or the old one has fewer than eight times the
+    /// bytes of the new one. In this last case the next compaction is tried when the file has so many, and after any
+    /// other error 64 KiB later. No fault is kept unless the new file was made: the log goes on as it is. Where the
+    /// mark could not be taken back from the old file, or the new one may lose the path with the power, the handle is
+    /// used no more.
     fn compact(&mut self, snapshot: &[Entry]) -> Result<(), LogError>
         ensures ok { OnOk result (Compacts snapshot.now self.old self.new) }
         ensures err { IfErr result (λ e. RefusesCompaction snapshot.now e self.old self.new) }

@@ -33,7 +33,8 @@ pub trait Medium {
         requires { IfSome (known self.old) IsLocked }
         ensures within { IfOk result (λ count. count ≤ length out.old) }
         ensures reads { IfOk result (λ count. IfSome (known self.old) (Reads at count out.new)) }
-        ensures same { known self.new ≡ known self.old };
+        ensures same { known self.new ≡ known self.old }
+        ensures file { IfErr result IsOfFile };
 
     /// Writes the bytes there. An `Err` may leave the first ones of them.
     fn write_all_at(&mut self, bytes: &[u8], at: u64) -> Result<(), FileFault>

@@ -80,7 +80,8 @@ pub(crate) fn looked_up(rt: &impl Files, path: &str) -> Result<Option<FileNumber
 
 /// As many of the file's bytes from there on as there are and fit.
 pub(crate) fn read_some(file: &File, buffer: &mut [u8], from: u64) -> Result<usize, FileFault>
-    ensures { IfOk result (λ count. count ≤ length buffer.new) }
+    ensures within { IfOk result (λ count. count ≤ length buffer.new) }
+    ensures file { IfErr result IsOfFile }
 {
     for _ in 0..u64::MAX {
         match file.read_at(buffer, from) {

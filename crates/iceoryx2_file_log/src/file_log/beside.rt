@@ -5,7 +5,7 @@ ghost use Rattle.iceoryx2_file_log.specs.declared.error.FileFault.TheVariants as
 ghost use Rattle.iceoryx2_file_log.specs.declared.header.TheConstants.{HEADER_LENGTH};
 
 use super::measured;
-use crate::bytes::lock;
+use crate::bytes::{lock, read_back};
 use crate::compaction::{Access, keeps_access};
 use crate::error::{FileFault, system_fault};
 use crate::header::{HEADER_LENGTH, Header, LogName};
@@ -56,7 +56,7 @@ fn fill(file: &File, own: &File, bytes: &[u8]) -> io::Result<()> {
     file.sync_all()
 }
 
-/// Fills the file and locks it.
+/// Fills the file, locks it, and reads it back.
 fn prepare(
     clock: &impl Clock,
     file: &File,
@@ -69,12 +69,13 @@ fn prepare(
     if let Err(error) = fill(file, own, bytes) {
         return Err(system_fault(&error));
     }
-    lock(clock, &mut LockedFile::new(file), patience)?;
-    Ok(())
+    let mut medium = LockedFile::new(file);
+    let file_length = lock(clock, &mut medium, patience)?;
+    read_back(&mut medium, bytes, file_length)
 }
 
-/// Makes the file of this path, of these bytes and of the own one's mode, synchronized and locked. Nothing is left
-/// where that is refused.
+/// Makes the file of this path, of these bytes and of the own one's mode, synchronized, locked and read back. Nothing
+/// is left where that is refused.
 pub(super) fn make_beside<R: Files<File = File> + Clock>(
     rt: &R,
     beside: &str,

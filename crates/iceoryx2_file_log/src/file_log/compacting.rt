@@ -23,7 +23,7 @@ use std::fs::{self, File};
 use std::rt::Files;
 use std::time::Clock;
 
-/// The new file of a compaction, locked.
+/// The new file of a compaction, locked and read back.
 #[derive(Drop)]
 pub(super) struct NewPlace {
     pub file: File,
