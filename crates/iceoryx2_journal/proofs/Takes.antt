@@ -12,7 +12,7 @@ use Rattle.iceoryx2_journal.specs.declared.taking.Stop.{Stop}
 use Rattle.iceoryx2_journal.specs.Follow.{IsFollowed, ActsAlone}
 use Rattle.iceoryx2_journal.specs.Taking.{is_own, IsAllTaken, TakesOver, Stops, unread, starved, own, disagrees, astray}
 use Rattle.iceoryx2_journal.specs.Taking.{TakesOne, TakesSome}
-use Rattle.iceoryx2_journal.proofs.Following.{each_more, prepare_acts, followed_acts}
+use Rattle.iceoryx2_journal.proofs.Following.{each_more, prepare_acts, differs_acts, followed_acts}
 use Rattle.iceoryx2_journal.proofs.Logs.{taken_not, then_taken}
 
 pub takes_not : (nodes : List ℕ) (w : World) (c d : Option Contents) → d ≡ c → TakesOver nodes w w c d
@@ -53,5 +53,5 @@ pub stops_others : {nodes : List ℕ} {c : Option Contents} {w v : World} {s : S
 stops_others (unread is same) = same_others same
 stops_others (starved e is front f p) = alone e.node f (prepare_acts e.hash e.deed p) nobody
 stops_others (own e is front f same) = same_others same
-stops_others (disagrees e is front f a) = alone e.node f a nobody
+stops_others (disagrees e is front f a) = alone e.node f (differs_acts e a) nobody
 stops_others (astray is unknown same) = same_others same

@@ -4,8 +4,21 @@ use Rattle.iceoryx2_description.specs.declared.description.ServiceHash.{ServiceH
 use Rattle.iceoryx2_description.specs.Description.{Description}
 use Rattle.iceoryx2_byte_form.specs.Form.{IsForm}
 use Rattle.iceoryx2_access.specs.declared.storage.FetchError.{FetchError}
-use Rattle.iceoryx2_access.specs.declared.storage.Tag.TheVariants.{Made}
+use Rattle.iceoryx2_access.specs.declared.storage.LockError.{LockError}
+use Rattle.iceoryx2_access.specs.declared.storage.LockError.TheVariants as Locking
+use Rattle.iceoryx2_access.specs.declared.storage.MakeSegmentError.{MakeSegmentError}
+use Rattle.iceoryx2_access.specs.declared.storage.MakeSegmentError.TheVariants as Making
+use Rattle.iceoryx2_access.specs.declared.storage.OpenSegmentError.{OpenSegmentError}
+use Rattle.iceoryx2_access.specs.declared.storage.OpenSegmentError.TheVariants as Opening
+use Rattle.iceoryx2_access.specs.declared.storage.PublishError.{PublishError}
+use Rattle.iceoryx2_access.specs.declared.storage.PublishError.TheVariants as Publishing
 use Rattle.iceoryx2_access.specs.declared.storage.Release.{Release as Released}
+use Rattle.iceoryx2_access.specs.declared.storage.ReleaseError.{ReleaseError}
+use Rattle.iceoryx2_access.specs.declared.storage.RemoveError.{RemoveError}
+use Rattle.iceoryx2_access.specs.declared.storage.Tag.{Tag}
+use Rattle.iceoryx2_access.specs.declared.storage.Tag.TheVariants.{Made}
+use Rattle.iceoryx2_access.specs.declared.storage.TagError.{TagError}
+use Rattle.iceoryx2_access.specs.declared.storage.TagError.TheVariants as Tagging
 use Rattle.iceoryx2_access.specs.Letter.{Letter, acting_node}
 use Rattle.iceoryx2_access.specs.Letter as letter
 use Rattle.iceoryx2_access.specs.Run.{Joins, Each}
@@ -33,6 +46,31 @@ Grants i h (deed.Release ticket n) l = (left : Released) × (l ≡ letter.Releas
 Grants i h (deed.Spend n) l = ⊥
 Grants i h deed.Moved l = ⊥
 
+-- The letter is this deed of the node, whatever it is answered.
+abbrev pub Asks : (node : ℕ) → ServiceHash → Deed → Letter → Type 0
+Asks i h deed.MakeTag l = (a : Result Tag TagError) × (l ≡ letter.MakeTag i h a)
+Asks i h deed.RemoveTag l = (a : Result (Unit {0}) RemoveError) × (l ≡ letter.RemoveTag i h a)
+Asks i h (deed.Lock n) l = (a : Result ℕ LockError) × (l ≡ letter.Lock i h a)
+Asks i h (deed.MakeSegment n nodes) l =
+    (a : Result (Unit {0}) MakeSegmentError) × (l ≡ letter.MakeSegment i h n nodes a)
+Asks i h deed.RemoveSegment l = (a : Result (Unit {0}) RemoveError) × (l ≡ letter.RemoveSegment i h a)
+Asks i h deed.RemoveDescription l = (a : Result (Unit {0}) RemoveError) × (l ≡ letter.RemoveDescription i h a)
+Asks i h (deed.Publish n bytes) l =
+    (d : Description) × (a : Result ℕ PublishError) × IsForm d bytes × (l ≡ letter.Publish i h n d a)
+Asks i h (deed.OpenSegment n ticket) l = (a : Result ℕ OpenSegmentError) × (l ≡ letter.OpenSegment i h n a)
+Asks i h (deed.Release ticket n) l = (a : Result Released ReleaseError) × (l ≡ letter.Release ticket i h n a)
+Asks i h (deed.Spend n) l = ⊥
+Asks i h deed.Moved l = ⊥
+
+-- It is answered for want of memory.
+abbrev pub LacksMemory : Letter → Type 0
+LacksMemory (letter.MakeTag i h a) = a ≡ Err Tagging.OutOfMemory
+LacksMemory (letter.Lock i h a) = a ≡ Err Locking.OutOfMemory
+LacksMemory (letter.MakeSegment i h n nodes a) = a ≡ Err Making.OutOfMemory
+LacksMemory (letter.Publish i h n d a) = a ≡ Err Publishing.OutOfMemory
+LacksMemory (letter.OpenSegment i h n a) = a ≡ Err Opening.OutOfMemory
+LacksMemory _ = ⊥
+
 -- The letter is the entry's access, granted.
 abbrev pub IsEntryOf : Entry → Letter → Type 0
 IsEntryOf e l = Grants e.node e.hash e.deed l
@@ -53,6 +91,17 @@ pub data IsFollowed (old : World) (e : Entry) (new : World) : Type 0 where
       → IsOwnPart ready l new → IsFollowed old e new
   spent : (n : ℕ) → e.deed ≡ deed.Spend n → Spends e.node e.hash n old new → IsFollowed old e new
 
+-- The world doesn't answer what the entry has: its node's access is answered otherwise, and not for want of memory, its
+-- bytes are of no description, its numbers can't be spent, or it is a mark.
+pub data Differs (old : World) (e : Entry) (new : World) : Type 0 where
+  answered : (ready : World) (l : Letter) → Prepares e.node e.hash e.deed old ready → Asks e.node e.hash e.deed l
+      → (IsEntryOf e l → ⊥) → (LacksMemory l → ⊥) → IsOwnPart ready l new → Differs old e new
+  malformed : (n : ℕ) (bytes : List ℕ) → e.deed ≡ deed.Publish n bytes → ((d : Description) → IsForm d bytes → ⊥)
+      → new ≡ old → Differs old e new
+  unspent : (n : ℕ) → e.deed ≡ deed.Spend n → ((v : World) → Spends e.node e.hash n old v → ⊥) → new ≡ old
+      → Differs old e new
+  mark : e.deed ≡ deed.Moved → new ≡ old → Differs old e new
+
 -- There are accesses of this node and of no other, with whatever answers.
 abbrev pub ActsAlone : (node : ℕ) → World → World → Type 0
 ActsAlone i old new = Joins IsOwnPart old (Each (λ l. acting_node l ≡ i)) new
@@ -61,10 +110,11 @@ ActsAlone i old new = Joins IsOwnPart old (Each (λ l. acting_node l ≡ i)) new
 abbrev pub Follows : Entry → Result (Unit {0}) FollowError → World → World → Type 0
 Follows e (Ok x) old new = IsFollowed old e new
 Follows e (Err errors.OutOfMemory) old new = Prepares e.node e.hash e.deed old new
-Follows e (Err errors.Disagrees) old new = ActsAlone e.node old new
+Follows e (Err errors.Disagrees) old new = Differs old e new
 
--- By what an access answered: it is granted so, or it is an error for want of memory, or anything.
-abbrev pub Judges : (is_granted is_refused : Type 0) → Result (Unit {0}) FollowError → Type 0
-Judges is_granted is_refused (Ok x) = is_granted
-Judges is_granted is_refused (Err errors.OutOfMemory) = is_refused
-Judges is_granted is_refused (Err errors.Disagrees) = Unit {0}
+-- By what an access answered: it is granted so; it is an error, where memory is wanted; or it is neither granted so nor
+-- wants memory.
+abbrev pub Judges : (is_granted is_refused is_want : Type 0) → Result (Unit {0}) FollowError → Type 0
+Judges is_granted is_refused is_want (Ok x) = is_granted
+Judges is_granted is_refused is_want (Err errors.OutOfMemory) = is_refused
+Judges is_granted is_refused is_want (Err errors.Disagrees) = (is_granted → ⊥) × (is_want → ⊥)

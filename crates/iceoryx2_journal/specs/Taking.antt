@@ -10,7 +10,7 @@ use Rattle.iceoryx2_journal.specs.declared.taking.Stop.{Stop}
 use Rattle.iceoryx2_journal.specs.declared.taking.Stop.TheVariants as stop
 use Rattle.iceoryx2_journal.specs.declared.taking.Next.{Next}
 use Rattle.iceoryx2_journal.specs.declared.taking.Next.TheVariants as next
-use Rattle.iceoryx2_journal.specs.Follow.{IsFollowed, Prepares, ActsAlone}
+use Rattle.iceoryx2_journal.specs.Follow.{IsFollowed, Prepares, Differs}
 use Rattle.iceoryx2_journal.specs.Snapshot.{IsSnapshot, StandsFor}
 
 -- The node is one of these.
@@ -57,7 +57,7 @@ pub data Stops (nodes : List ℕ) (log : Option Contents) (w : World) (s : Stop)
   -- it is in an own node's name, and this process didn't append it: it isn't followed
   own : (e : Entry) → s ≡ stop.Over → IsNext e log → is_own nodes e.node ≡ true → v ≡ w → Stops nodes log w s v
   -- it isn't what the table answers to another's access
-  disagrees : (e : Entry) → s ≡ stop.Over → IsNext e log → is_own nodes e.node ≡ false → ActsAlone e.node w v
+  disagrees : (e : Entry) → s ≡ stop.Over → IsNext e log → is_own nodes e.node ≡ false → Differs w e v
       → Stops nodes log w s v
   -- where the log went on elsewhere, others don't lead to what its snapshot comes to
   astray : s ≡ stop.Over → log ≡ None → v ≡ w → Stops nodes log w s v

@@ -1,6 +1,7 @@
 //! A storage that processes share: the world that each makes of one log.
 //!
-//! `follow` makes another's entry its node's access, or finds that the world grants it otherwise (`Follows`).
+//! `follow` makes another's entry its node's access (`Follows`), or finds that the world answers otherwise than the entry
+//! has it, and not for want of memory (`Differs`).
 //! `take_all` takes over what others appended, in order, and stops at an entry in an own node's name (`TakesOver`).
 //! Such an entry, and one that isn't what the table answers, end the journal: `take_next` goes on later only where the
 //! log showed no entry, or there was no memory for another's (`IsLaterFor`).

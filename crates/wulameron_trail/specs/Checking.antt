@@ -11,7 +11,7 @@ use Rattle.iceoryx2_file_log.specs.declared.header.HeaderError.{HeaderError}
 use Rattle.iceoryx2_file_log.specs.declared.header.HeaderError.TheVariants as header
 use Rattle.iceoryx2_file_log.specs.Header.{IsForm as IsHeaderForm, HasVersion}
 use Rattle.iceoryx2_file_log.specs.Remainder.{IsTorn}
-use Rattle.iceoryx2_journal.specs.Follow.{IsFollowed, ActsAlone}
+use Rattle.iceoryx2_journal.specs.Follow.{IsFollowed, Differs}
 use Rattle.wulameron_trail.specs.declared.checker.Ending.{Ending}
 use Rattle.wulameron_trail.specs.declared.checker.Ending.TheVariants as ending
 use Rattle.wulameron_trail.specs.declared.checker.Sound.{Sound}
@@ -88,13 +88,13 @@ IsShort snapshot at rest =
     ⊎ ((ended : Ending) × IsEnd rest ended × (at < snapshot))
 
 -- What is wrong with the first thing of the rest, after so many bytes of entries that come to this world. That an
--- entry isn't answered is what following it came to: accesses of its node alone.
+-- entry isn't answered is that the world answers otherwise than the entry has it.
 abbrev pub IsWrongNext : (snapshot : ℕ) → World → (at : ℕ) → List ℕ → Wrong → Type 0
 IsWrongNext snapshot w at rest (wrong.BadHeader error) = ⊥
 IsWrongNext snapshot w at rest wrong.DamagedEntry =
     (IsTorn rest → ⊥) × ((e : Entry) (count : ℕ) → Begins rest e count → ⊥)
 IsWrongNext snapshot w at rest wrong.NotAnswered =
-    (e : Entry) × (count : ℕ) × (u : World) × IsAccess rest e count × Fits snapshot at count × ActsAlone e.node w u
+    (e : Entry) × (count : ℕ) × (u : World) × IsAccess rest e count × Fits snapshot at count × Differs w e u
 IsWrongNext snapshot w at rest wrong.NoAgreement =
     (e : Entry) × (count : ℕ) × (u : World) × IsAccess rest e count × Fits snapshot at count
     × IsFollowed w e u × (Agrees u → ⊥)

@@ -1,7 +1,12 @@
 //! Whether an access answers what an entry has. `OutOfMemory` where it found no memory, and `Disagrees` for any other
 //! answer.
 
-ghost use Rattle.std.specs.Prelude.{◌≡◌, true, false, Ok, is_ok};
+ghost use Rattle.std.specs.Prelude.{◌≡◌, true, false, Ok, Err, is_ok};
+ghost use Rattle.iceoryx2_access.specs.declared.storage.LockError.TheVariants as locking;
+ghost use Rattle.iceoryx2_access.specs.declared.storage.MakeSegmentError.TheVariants as making;
+ghost use Rattle.iceoryx2_access.specs.declared.storage.OpenSegmentError.TheVariants as opening;
+ghost use Rattle.iceoryx2_access.specs.declared.storage.PublishError.TheVariants as publishing;
+ghost use Rattle.iceoryx2_access.specs.declared.storage.TagError.TheVariants as tag_error;
 ghost use Rattle.iceoryx2_access.specs.declared.storage.Tag.TheVariants.{Made};
 ghost use Rattle.iceoryx2_journal.specs.Follow.{Judges};
 
@@ -13,7 +18,7 @@ use iceoryx2_access::storage::{
 
 /// The tag was made. `Disagrees` too where it was there.
 pub fn made_tag(answer: Result<Tag, TagError>) -> Result<(), FollowError>
-    ensures { Judges (answer ≡ Ok Made) (is_ok answer ≡ false) result }
+    ensures { Judges (answer ≡ Ok Made) (is_ok answer ≡ false) (answer ≡ Err tag_error.OutOfMemory) result }
 {
     match answer {
         Ok(Tag::Made) => Ok(()),
@@ -24,7 +29,7 @@ pub fn made_tag(answer: Result<Tag, TagError>) -> Result<(), FollowError>
 
 /// It was removed.
 pub fn removed(answer: Result<(), RemoveError>) -> Result<(), FollowError>
-    ensures { Judges (answer ≡ Ok tt) (is_ok answer ≡ false) result }
+    ensures { Judges (answer ≡ Ok tt) (is_ok answer ≡ false) ⊥ result }
 {
     match answer {
         Ok(()) => Ok(()),
@@ -34,7 +39,7 @@ pub fn removed(answer: Result<(), RemoveError>) -> Result<(), FollowError>
 
 /// The lock was granted, with the entry's number.
 pub fn locked(answer: Result<u64, LockError>, number: u64) -> Result<(), FollowError>
-    ensures { Judges (answer ≡ Ok number) (is_ok answer ≡ false) result }
+    ensures { Judges (answer ≡ Ok number) (is_ok answer ≡ false) (answer ≡ Err locking.OutOfMemory) result }
 {
     match answer {
         Ok(found) => same(found, number),
@@ -45,7 +50,7 @@ pub fn locked(answer: Result<u64, LockError>, number: u64) -> Result<(), FollowE
 
 /// The segment was made.
 pub fn made_segment(answer: Result<(), MakeSegmentError>) -> Result<(), FollowError>
-    ensures { Judges (answer ≡ Ok tt) (is_ok answer ≡ false) result }
+    ensures { Judges (answer ≡ Ok tt) (is_ok answer ≡ false) (answer ≡ Err making.OutOfMemory) result }
 {
     match answer {
         Ok(()) => Ok(()),
@@ -56,7 +61,8 @@ pub fn made_segment(answer: Result<(), MakeSegmentError>) -> Result<(), FollowEr
 
 /// The description was published, with the entry's number.
 pub fn published(answer: Result<u64, PublishError>, number: u64) -> Result<(), FollowError>
-    ensures { Judges (answer ≡ Ok number) (is_ok answer ≡ false) result }
+    ensures { Judges (answer ≡ Ok number) (is_ok answer ≡ false)
+        (answer ≡ Err publishing.OutOfMemory) result }
 {
     match answer {
         Ok(found) => same(found, number),
@@ -67,7 +73,7 @@ pub fn published(answer: Result<u64, PublishError>, number: u64) -> Result<(), F
 
 /// The segment was opened, with the entry's ticket.
 pub fn opened(answer: Result<u64, OpenSegmentError>, ticket: u64) -> Result<(), FollowError>
-    ensures { Judges (answer ≡ Ok ticket) (is_ok answer ≡ false) result }
+    ensures { Judges (answer ≡ Ok ticket) (is_ok answer ≡ false) (answer ≡ Err opening.OutOfMemory) result }
 {
     match answer {
         Ok(found) => same(found, ticket),
@@ -78,7 +84,7 @@ pub fn opened(answer: Result<u64, OpenSegmentError>, ticket: u64) -> Result<(), 
 
 /// The ticket was released, whatever that left.
 pub fn released(answer: Result<Release, ReleaseError>) -> Result<(), FollowError>
-    ensures { Judges (is_ok answer ≡ true) (is_ok answer ≡ false) result }
+    ensures { Judges (is_ok answer ≡ true) (is_ok answer ≡ false) ⊥ result }
 {
     match answer {
         Ok(_) => Ok(()),
@@ -88,7 +94,7 @@ pub fn released(answer: Result<Release, ReleaseError>) -> Result<(), FollowError
 
 // Whether it is the entry's number.
 fn same(found: u64, number: u64) -> Result<(), FollowError>
-    ensures { Judges (found ≡ number) ⊥ result }
+    ensures { Judges (found ≡ number) ⊥ ⊥ result }
 {
     if found == number {
         Ok(())

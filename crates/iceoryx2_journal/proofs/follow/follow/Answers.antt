@@ -1,4 +1,6 @@
-use Rattle.iceoryx2_journal.proofs.Following.{same_entry, acts_not}
+use Rattle.std.proofs.Common.{refl}
+use Rattle.iceoryx2_journal.specs.Follow.{mark}
+use Rattle.iceoryx2_journal.proofs.Following.{same_entry}
 use Rattle.iceoryx2_journal.proofs.follow.follow.Goals as goal
 
 pub returns-in-MakeTag : goal.returns-in-MakeTag
@@ -32,4 +34,4 @@ pub returns-in-Spend : goal.returns-in-Spend
 returns-in-Spend c = same_entry c.args.entry.now _ c.spend.result c.args.world.now c.spend.new.world c.in-Spend.is c.spend.ensures
 
 pub returns-in-Moved : goal.returns-in-Moved
-returns-in-Moved c = acts_not
+returns-in-Moved c = mark c.in-Moved.is refl
