@@ -212,7 +212,49 @@ def dead_before(runs):
     print(f"compacted after {done} of {len(tries)} deaths")
 
 
+# ---- a log that was taken away
+
+
+def take_away(path, kind):
+    """The log loses its path, or gets another name beside it."""
+    other = path.with_name("elsewhere")
+    if kind == "removed":
+        path.unlink()
+    elif kind == "renamed":
+        path.rename(other)
+    else:
+        os.link(path, other)
+
+
+def taken_away(runs, kind):
+    """A log is taken away while a process uses it, and another one is made. Its process never gives it the path back."""
+    path, what = runs.file(kind), f"a log that is {kind}"
+    worker = Living(runs, path, WORKER)
+    made = [worker.reply(f"event create {WORKER} 1 kept")]
+    take_away(path, kind)
+    other = Living(runs, path, IDLE)
+    made.append(other.reply(f"event create {IDLE} 1 beside"))
+    stood = standing(path)[0]
+    for _ in range(2 * PAIRS):
+        made += [worker.reply(f"event create {WORKER} 0 busy"), worker.reply("close 0")]
+    runs.need(None not in made and all(reply[:3] in ("ok ", "clo") for reply in made), f"{what}: it replied {made}")
+    runs.need(standing(path)[0] == stood, f"{what}: another file has the path")
+    runs.need(not path.with_name("log.compacted").exists(), f"{what}: a file is left beside it")
+    listed, wanted = services(other.listing()), {"beside"} if kind != "linked" else {"beside", "kept"}
+    runs.need(set(listed) == wanted, f"{what}: it lists {listed}")
+    for process in (worker, other):
+        ran = process.end()
+        runs.need((ran.status, ran.out, ran.err) == (0, [], ""), f"{what}: node {process.node} ended with {ran}")
+
+
+def away(runs):
+    """A log is removed, renamed, or linked under a second name."""
+    for kind in ("removed", "renamed", "linked"):
+        taken_away(runs, kind)
+    print("a log that was removed, renamed or linked doesn't come back")
+
+
 def compaction(runs):
     """All of it, one after the other."""
-    for part in (idle, several, dead_before):
+    for part in (idle, several, dead_before, away):
         part(runs)

@@ -10,8 +10,8 @@ use Rattle.iceoryx2_file_log.specs.Compaction.{AreForms, MayBeCut}
 abbrev pub AreBytes : List ℕ → Type 0
 AreBytes bytes = (i : ℕ) → slice_index bytes i < 256
 
--- All that a handle knows. While it has the lock this is what the file holds; while it hasn't, what the file held at the
--- moment when the lock was let go of.
+-- All that a handle knows. While it has the lock this is what the file holds; while it hasn't, what the file held at
+-- the moment when the lock was let go of.
 pub record Known : Type 0 where
   pub bytes : List ℕ
   -- what it held when the lock was granted: others may know of this

@@ -7,8 +7,8 @@ ghost use Rattle.iceoryx2_file_log.specs.Compaction.{MayBeCut};
 ghost use Rattle.iceoryx2_file_log.specs.Place.{left, cut, appended};
 ghost use Rattle.iceoryx2_file_log.specs.Handle.{ReadsOn, IsFront, IsSureOfCuts};
 ghost use Rattle.iceoryx2_file_log.specs.Medium.{Becomes, IsFree, IsLocked, Grants, MayChangeFrom, WritesSome};
-ghost use Rattle.iceoryx2_file_log.specs.Bytes.{Reading, WritesAll, CutsAll, EndsAt, AppendsBytes, SameBytes, IsTakenBack};
-ghost use Rattle.iceoryx2_file_log.specs.Bytes.{IsSoLong, SameAt, Holds};
+ghost use Rattle.iceoryx2_file_log.specs.Bytes.{Reading, IsSoLong, SameAt, Holds, WritesAll, CutsAll, EndsAt};
+ghost use Rattle.iceoryx2_file_log.specs.Bytes.{AppendsBytes, SameBytes, IsTakenBack};
 
 use crate::cursor::Cursor;
 use crate::error::{FileFault, system_fault};
@@ -38,8 +38,8 @@ pub(crate) fn pause_after(round: u64) -> Duration {
     Duration::from_micros(micros)
 }
 
-/// Tries to lock the file until it is locked or the patience is over, with pauses that grow: `Busy` then. Gives how long
-/// the file is.
+/// Tries to lock the file until it is locked or the patience is over, with pauses that grow: `Busy` then. Gives how
+/// long the file is.
 pub fn lock<C: Clock, M: Medium>(
     clock: &C,
     medium: &mut M,

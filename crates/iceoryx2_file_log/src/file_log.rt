@@ -525,9 +525,10 @@ impl<R: Files<File = File> + Clock + AllocGlobal> Log for FileLog<R> {
     /// The handle stands at the end of the new file, behind the snapshot. `Failed` where the log isn't held, an entry
     /// is unread, the new file holds other bytes than were written to it, or the old one has fewer than eight times the
     /// bytes of the new one. In this last case the next compaction is tried when the file has so many, and after any
-    /// other error 64 KiB later. No fault is kept unless the new file was made: the log goes on as it is. Where the
-    /// mark could not be taken back from the old file, or the new one may lose the path with the power, the handle is
-    /// used no more.
+    /// other error 64 KiB later. `Moved` where the old file hasn't the log's path by now, or has another name too: then
+    /// no file takes the path. No fault is kept unless the new file was made: the log goes on as it is. Where the mark
+    /// could not be taken back from the old file, or the new one may lose the path with the power, the handle is used
+    /// no more.
     fn compact(&mut self, snapshot: &[Entry]) -> Result<(), LogError>
         ensures ok { OnOk result (Compacts snapshot.now self.old self.new) }
         ensures err { IfErr result (λ e. RefusesCompaction snapshot.now e self.old self.new) }

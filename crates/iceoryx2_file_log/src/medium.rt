@@ -8,8 +8,8 @@ ghost use Rattle.iceoryx2_file_log.specs.Medium.{KeepsAlone, KeepsInTurn, MoreKe
 
 use crate::error::FileFault;
 
-/// The bytes of a log's file, which processes share, by one of its handles. Between a lock that is granted and `unlock`,
-/// or the end of the process, nobody else changes them.
+/// The bytes of a log's file, which processes share, by one of its handles. Between a lock that is granted and
+/// `unlock`, or the end of the process, nobody else changes them.
 ///
 /// All who share it keep one rule: the header and what stood behind it as whole entries when the lock was granted, but
 /// for marks, stands at each moment after that (`MayChangeFrom`). So it stands when the next lock is granted, whatever

@@ -10,7 +10,7 @@ ghost use Rattle.iceoryx2_file_log.specs.Moving.{stood, ended, IsErrWith, MayCom
 
 use super::FileLog;
 use super::beside::{Located, locate, make_beside};
-use super::marking::move_log;
+use super::marking::{is_alone, move_log};
 use crate::compaction::{
     Snapshot, first_tried, is_worth, length_later, length_worth, mark_form, snapshot_of,
 };
@@ -83,6 +83,17 @@ impl<R: Files<File = File> + Clock + AllocGlobal> FileLog<R> {
         self.stand(HEADER_LENGTH as u64, header, file_length);
     }
 
+    /// Whether another file may take the place of the own one. `Moved` where this hasn't the path, or has another name
+    /// too.
+    fn may_be_left(&self) -> Result<(), FileFault>
+        ensures { IfErr result (λ why. why ≢ fault.NothingSaved) }
+    {
+        if is_alone(&self.rt, &self.path, &self.file)? {
+            return Ok(());
+        }
+        Err(FileFault::Moved)
+    }
+
     /// The file of a compaction to these entries.
     fn wanted(&self, entries: &[Entry]) -> Result<Snapshot, FileFault>
         ensures ok { IfOk result (λ file. IsSnapshot self.now.header.name entries.now file.header file.bytes.items) }
@@ -97,6 +108,7 @@ impl<R: Files<File = File> + Clock + AllocGlobal> FileLog<R> {
         if !self.cursor.is_read() {
             return Err(FileFault::Unread);
         }
+        self.may_be_left()?;
         snapshot_of(self.rt.alloc(), self.header.name, entries)
     }
 
@@ -160,8 +172,10 @@ impl<R: Files<File = File> + Clock + AllocGlobal> FileLog<R> {
         }
     }
 
-    /// Gives the path to the file beside, and the mark to the own one.
+    /// Gives the path to the file beside, and the mark to the own one. `Moved` where the own one hasn't the path by
+    /// now.
     fn give_way(&self, beside: &str) -> Result<(), FileFault> {
+        self.may_be_left()?;
         let mark = mark_form(self.rt.alloc())?;
         move_log(
             &self.rt,

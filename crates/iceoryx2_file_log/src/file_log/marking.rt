@@ -3,7 +3,7 @@
 ghost use Rattle.std.specs.Prelude.{◌≡◌, ◌≤◌, ◌⊎◌, ◌↔◌, None, OnOk, OnErr, IfErr, IsTrue, length};
 ghost use Rattle.std.specs.IoError.{error_kind};
 ghost use Rattle.iceoryx2_file_log.specs.declared.error.FileFault.TheVariants as fault;
-ghost use Rattle.iceoryx2_file_log.specs.Errors.{kind_fault};
+ghost use Rattle.iceoryx2_file_log.specs.Errors.{kind_fault, IsOfFile};
 ghost use Rattle.iceoryx2_file_log.specs.Compaction.{IsMark, BeginsWithMark, MayBeCut, snapshot_end};
 ghost use Rattle.iceoryx2_file_log.specs.Place.{left, cut};
 ghost use Rattle.iceoryx2_file_log.specs.Handle.{CutsMark, IsSureOfCuts};
@@ -16,6 +16,7 @@ use crate::header::Header;
 use crate::locked_file::LockedFile;
 use crate::opening::{FileNumber, looked_up, number_of, sync_folder};
 use std::fs::{self, File};
+use std::os::unix::fs::MetadataExt;
 use std::rt::Files;
 
 /// Whether the mark of this file is left of a move that was not made, since the file itself has the path.
@@ -29,10 +30,26 @@ fn has_stayed(own: FileNumber, found: Option<FileNumber>) -> bool
 }
 
 /// Whether the file has the path.
-pub(super) fn has_path(rt: &impl Files, path: &str, file: &File) -> Result<bool, FileFault> {
+pub(super) fn has_path(rt: &impl Files, path: &str, file: &File) -> Result<bool, FileFault>
+    ensures { IfErr result IsOfFile }
+{
     let found = looked_up(rt, path)?;
     match file.metadata() {
         Ok(metadata) => Ok(has_stayed(number_of(&metadata), found)),
+        Err(error) => Err(system_fault(&error)),
+    }
+}
+
+/// Whether the file has the path, and no other name. Another file may not take the path else: who removes or renames a
+/// log, or gives it a second name, doesn't mean it to come back.
+pub(super) fn is_alone(rt: &impl Files, path: &str, file: &File) -> Result<bool, FileFault>
+    ensures { IfErr result IsOfFile }
+{
+    if !has_path(rt, path, file)? {
+        return Ok(false);
+    }
+    match file.metadata() {
+        Ok(metadata) => Ok(metadata.nlink() == 1),
         Err(error) => Err(system_fault(&error)),
     }
 }
