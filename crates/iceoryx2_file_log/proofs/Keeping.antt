@@ -22,7 +22,7 @@ pub keeps_in_turn : KeepsInTurn
 keeps_in_turn old mid new a b entries front x = b entries front (a entries front x)
 
 -- The same front, before other bytes.
-before : (entries : List Entry) (front old new rest : List ℕ) → BeginWith entries front old → new ≡ front ++ rest
+pub before : (entries : List Entry) (front old new rest : List ℕ) → BeginWith entries front old → new ≡ front ++ rest
     → BeginWith entries front new
 before entries front old new rest b is = record {
   header = b.header;
@@ -48,12 +48,12 @@ Read = Entry × List ℕ
 abbrev read : Entry → List ℕ → Read
 read e rest = (e, rest)
 
-same_front : (bytes : List ℕ) (d e : Entry) (m n : ℕ) (x : Begins bytes d m) (y : Begins bytes e n)
+pub same_front : (bytes : List ℕ) (d e : Entry) (m n : ℕ) (x : Begins bytes d m) (y : Begins bytes e n)
     → read d x.rest ≡ read e y.rest
 same_front bytes d e m n x y =
     some_is (read d x.rest) (read e y.rest) (sym (read_again bytes d m x) ∙ read_again bytes e n y)
 
-abbrev begin_of : (e : Entry) (entries : List Entry) (forms rest bytes : List ℕ) (are : AreForms (e ∷ entries) forms)
+abbrev pub begin_of : (e : Entry) (entries : List Entry) (forms rest bytes : List ℕ) (are : AreForms (e ∷ entries) forms)
     → bytes ≡ forms ++ rest → Begins bytes e (length are.0)
 begin_of e entries forms rest bytes are parts = record {
   form = are.0;
@@ -64,7 +64,7 @@ begin_of e entries forms rest bytes are parts = record {
 }
 
 -- The bytes begin with no entry but a mark.
-abbrev IsQuiet : List ℕ → Type 0
+abbrev pub IsQuiet : List ℕ → Type 0
 IsQuiet bytes = (e : Entry) (count : ℕ) → Begins bytes e count → e.deed ≢ Moved → ⊥
 
 -- Where some entries are all that bytes begin with, but for a mark, other entries with which they begin are a front of
@@ -86,7 +86,7 @@ front_forms (x ∷ es) (y ∷ fs) f g r s apart a b e quiet =
     )
 
 -- What may be cut off begins with no entry but a mark.
-quiet_cut : (bytes : List ℕ) → MayBeCut bytes → IsQuiet bytes
+pub quiet_cut : (bytes : List ℕ) → MayBeCut bytes → IsQuiet bytes
 quiet_cut bytes (inl torn) e count b apart = none_torn_away bytes e count torn b
 quiet_cut bytes (inr m) e count b apart =
     let whole : Begins bytes m.mark (length bytes) = record {

@@ -7,3 +7,6 @@ pub mod Snapshots
 pub mod Standing
 pub mod ByteSteps
 pub mod Keeping
+pub mod Decoded
+pub mod Positions
+pub mod Turning

@@ -3,7 +3,7 @@ use Rattle.std.specs.Prelude.{ℕ, ◌≡◌, ◌⊎◌, Bool, true, List, ◌++
 use Rattle.iceoryx2_file_log.specs.declared.error.FileFault.{FileFault}
 use Rattle.iceoryx2_file_log.specs.declared.error.FileFault.TheVariants as fault
 use Rattle.iceoryx2_file_log.specs.Place.{Place}
-use Rattle.iceoryx2_file_log.specs.Medium.{Known, Becomes, written}
+use Rattle.iceoryx2_file_log.specs.Medium.{Known, CutsTo, Becomes, written}
 
 -- The handle has the lock, knows how long the file is, and what it read ahead stands at its position.
 pub record Reading (p : Place) (k : Known) : Type 0 where
@@ -35,18 +35,9 @@ abbrev pub CutsAll : (at : ℕ) → (synchronizes : Bool) → Known → Known �
 CutsAll at synchronizes old new =
     new ≡ record old { bytes = take at old.bytes; synchronized = synchronizes }
 
--- It ends there, and nothing is lost before it. What was cut off doesn't come back with the power where that is wanted.
-pub record EndsAt (at : ℕ) (synchronizes : Bool) (old new : Known) : Type 0 where
-  pub bytes : new.bytes ≡ take at old.bytes
-  pub sure : (new.bytes ≡ old.bytes) ⊎ (synchronizes ≡ true → new.synchronized ≡ true)
-
--- The bytes stand behind all others, and are synchronized where that was wanted.
-abbrev pub AppendsBytes : List ℕ → (synchronizes : Bool) → Known → Known → Type 0
-AppendsBytes bytes synchronizes old new =
-    new ≡ record old { bytes = old.bytes ++ bytes; synchronized = synchronizes }
-
-abbrev pub SameBytes : Known → Known → Type 0
-SameBytes old new = new.bytes ≡ old.bytes
+-- It ends there, or nothing has changed.
+abbrev pub CutsOrStays : (at : ℕ) → Known → Known → Type 0
+CutsOrStays at old new = (new ≡ old) ⊎ CutsTo at old new
 
 -- Why a write is refused: for its own reason, and none of what it wrote is left, or because that is in doubt.
 abbrev pub IsTakenBack : FileFault → (error : FileFault) → (at : ℕ) → (synchronizes : Bool)

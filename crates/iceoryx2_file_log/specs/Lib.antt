@@ -10,6 +10,10 @@ pub mod Place
 pub mod Handle
 pub mod Medium
 pub mod Bytes
+pub mod Entries
+pub mod OneFile
+pub mod OneFileLog
+pub mod Turns
 pub mod Memory
 pub mod Moving
 pub mod Path

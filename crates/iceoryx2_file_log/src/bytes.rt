@@ -3,12 +3,10 @@
 ghost use Rattle.std.specs.Prelude.{◌≡◌, ◌+◌, ◌≤◌, ◌⊎◌, length, IfOk, IfErr, OnOk, OnErr, IfSome, IsTrue};
 ghost use Rattle.iceoryx2_file_log.specs.declared.error.FileFault.TheVariants as fault;
 ghost use Rattle.iceoryx2_file_log.specs.Errors.{IsOfFile};
-ghost use Rattle.iceoryx2_file_log.specs.Compaction.{MayBeCut};
-ghost use Rattle.iceoryx2_file_log.specs.Place.{left, cut, appended};
-ghost use Rattle.iceoryx2_file_log.specs.Handle.{ReadsOn, IsFront, IsSureOfCuts};
+ghost use Rattle.iceoryx2_file_log.specs.Handle.{ReadsOn, IsFront};
 ghost use Rattle.iceoryx2_file_log.specs.Medium.{Becomes, IsFree, IsLocked, Grants, MayChangeFrom, WritesSome};
-ghost use Rattle.iceoryx2_file_log.specs.Bytes.{Reading, IsSoLong, SameAt, Holds, WritesAll, CutsAll, EndsAt};
-ghost use Rattle.iceoryx2_file_log.specs.Bytes.{AppendsBytes, SameBytes, IsTakenBack};
+ghost use Rattle.iceoryx2_file_log.specs.Bytes.{Reading, IsSoLong, SameAt, Holds, WritesAll, CutsAll};
+ghost use Rattle.iceoryx2_file_log.specs.Bytes.{CutsOrStays, IsTakenBack};
 
 use crate::cursor::Cursor;
 use crate::error::{FileFault, system_fault};
@@ -206,9 +204,14 @@ pub fn write<M: Medium>(
 }
 
 /// Makes the file end at this place, and synchronizes that where it is wanted.
-fn shorten<M: Medium>(medium: &mut M, at: u64, synchronizes: bool) -> Result<(), FileFault>
+pub(crate) fn shorten<M: Medium>(
+    medium: &mut M,
+    at: u64,
+    synchronizes: bool,
+) -> Result<(), FileFault>
     requires { IfSome (M.known medium.old) (MayChangeFrom at) }
-    ensures { OnOk result (Becomes (CutsAll at synchronizes) (M.known medium.old) (M.known medium.new)) }
+    ensures ok { OnOk result (Becomes (CutsAll at synchronizes) (M.known medium.old) (M.known medium.new)) }
+    ensures err { OnErr result (Becomes (CutsOrStays at) (M.known medium.old) (M.known medium.new)) }
 {
     medium.set_len(at)?;
     if synchronizes {
@@ -234,42 +237,8 @@ pub fn take_back<M: Medium>(
     }
 }
 
-/// Writes an entry at the position, all of it or nothing. `Unsure` where a part that was written could not be taken
-/// back, or may come back with the power though the options synchronize.
-pub fn append_at<M: Medium>(
-    medium: &mut M,
-    cursor: &mut Cursor,
-    form: &[u8],
-    synchronizes: bool,
-) -> Result<(), FileFault>
-    requires all_read { cursor.old.file_length ≡ cursor.old.position }
-    requires reading { IfSome (M.known medium.old) (Reading cursor.old) }
-    requires may { IfSome (M.known medium.old) (MayChangeFrom cursor.old.position) }
-    ensures ok { OnOk result (cursor.new ≡ appended (length form.now) cursor.old) }
-    ensures err { OnErr result (cursor.new ≡ cursor.old) }
-    ensures stands { OnOk result (Becomes (AppendsBytes form.now synchronizes)
-        (M.known medium.old) (M.known medium.new)) }
-    ensures none { IfErr result (λ why. (why ≡ fault.Unsure)
-        ⊎ Becomes SameBytes (M.known medium.old) (M.known medium.new)) }
-{
-    let position = cursor.position();
-    let count = form.len() as u64;
-    if u64::MAX - position < count {
-        return Err(FileFault::Failed {
-            kind: ErrorKind::FileTooLarge,
-        });
-    }
-    match write(medium, form, position, synchronizes) {
-        Ok(()) => {
-            cursor.append(count);
-            Ok(())
-        }
-        Err(error) => Err(take_back(medium, position, synchronizes, error)),
-    }
-}
-
 /// Why a cut is refused that is made and could not be synchronized. `Unsure` where that is wanted.
-fn cut_fault(error: FileFault, synchronizes: bool) -> FileFault
+pub(crate) fn cut_fault(error: FileFault, synchronizes: bool) -> FileFault
     ensures doubt { IsTrue synchronizes → result ≡ fault.Unsure }
     ensures other { (IsTrue synchronizes → ⊥) → result ≡ error }
 {
@@ -277,32 +246,4 @@ fn cut_fault(error: FileFault, synchronizes: bool) -> FileFault
         return FileFault::Unsure;
     }
     error
-}
-
-/// Cuts off what stands at the position, all of which is torn, or a mark, and synchronizes that.
-pub fn cut_off<M: Medium>(
-    medium: &mut M,
-    cursor: &mut Cursor,
-    synchronizes: bool,
-) -> Result<(), FileFault>
-    requires torn { MayBeCut cursor.old.ahead }
-    requires all { left cursor.old ≤ length cursor.old.ahead }
-    requires reading { IfSome (M.known medium.old) (Reading cursor.old) }
-    requires may { IfSome (M.known medium.old) (MayChangeFrom cursor.old.position) }
-    ensures ok { OnOk result (cursor.new ≡ cut cursor.old) }
-    ensures err { OnErr result ((cursor.new ≡ cursor.old) ⊎ (cursor.new ≡ cut cursor.old)) }
-    ensures sure { IfErr result (λ why. IsSureOfCuts synchronizes why cursor.old cursor.new) }
-    ensures ends { OnOk result (Becomes (EndsAt cursor.old.position synchronizes)
-        (M.known medium.old) (M.known medium.new)) }
-{
-    if cursor.is_read() {
-        cursor.cut();
-        return Ok(());
-    }
-    medium.set_len(cursor.position())?;
-    cursor.cut();
-    match medium.sync() {
-        Ok(()) => Ok(()),
-        Err(error) => Err(cut_fault(error, synchronizes)),
-    }
 }

@@ -32,20 +32,16 @@ mod compacting;
 mod marking;
 
 use self::marking::cut_mark;
-use crate::bytes::{append_at, cut_off, front_at, lock, pause_after};
-use crate::compaction::{
-    first_tried, is_across_end, is_before_end, is_long, is_mark, length_later,
-};
+use crate::bytes::pause_after;
+use crate::compaction::{first_tried, is_before_end, is_long, length_later};
 use crate::cursor::{Cursor, State};
 use crate::error::{FileFault, FileLogError, log_error, system_fault};
 use crate::header::{HEADER_LENGTH, Header};
 use crate::locked_file::LockedFile;
-use crate::medium::Medium;
+use crate::one_file::{Found, accept, append, hold, let_go, next};
 use crate::opening::{opened, reopened};
 use crate::options::FileLogOptions;
-use crate::remainder::Front;
 use iceoryx2_log::entry::Entry;
-use iceoryx2_log::form::{EncodeError, encode};
 use iceoryx2_log::log::{Log, LogError};
 use std::alloc::AllocError;
 use std::fs::File;
@@ -146,33 +142,17 @@ fn next_at<R: Files + AllocGlobal>(
     ensures sure { IfErr result (λ why. IsSureOfCuts synchronizes why cursor.old cursor.new) }
     ensures stays { (cursor.new.position ≡ cursor.old.position) × (cursor.new.state ≡ cursor.old.state) }
     ensures shown { nat_lt 0 cursor.new.found ≡ is_shown result }
+    ensures not_held { IfSome (why_not_held cursor.old.state)
+        (λ why. (result ≡ Err why) × (cursor.new ≡ record cursor.old { found = 0 })) }
 {
-    cursor.find(0);
-    match front_at(&mut LockedFile::new(file), cursor, rt.alloc())? {
-        Front::Whole { entry, count } => {
-            if is_mark(&entry) {
-                cut_mark(rt, path, file, header, cursor, count, synchronizes)?;
-                return Ok(None);
-            }
-            let at = cursor.position();
-            if is_across_end(at, cursor.end_of(count), header) {
-                return Err(FileFault::Damaged { at });
-            }
-            cursor.find(count);
-            Ok(Some(entry))
-        }
-        Front::Torn => {
-            if is_before_end(cursor.position(), header) {
-                return Err(FileFault::Damaged {
-                    at: cursor.position(),
-                });
-            }
-            cut_off(&mut LockedFile::new(file), cursor, synchronizes)?;
+    let mut medium = LockedFile::new(file);
+    match next(rt.alloc(), &mut medium, cursor, header, synchronizes)? {
+        Found::Entry(entry) => Ok(Some(entry)),
+        Found::End => Ok(None),
+        Found::Mark { count } => {
+            cut_mark(rt, path, file, header, cursor, count, synchronizes)?;
             Ok(None)
         }
-        Front::Damaged | Front::Unfinished => Err(FileFault::Damaged {
-            at: cursor.position(),
-        }),
     }
 }
 
@@ -297,16 +277,9 @@ impl<R: Clock> FileLog<R> {
         ensures same { self.new ≡ record self.old { cursor = self.new.cursor; is_locked = self.new.is_locked } }
         ensures not_free { IfSome (why_not_free self.old.cursor.state) (λ why. result ≡ Err why) }
     {
-        if let Some(why) = self.cursor.why_not_free() {
-            return Err(why);
-        }
         let mut medium = LockedFile::new(&self.file);
-        let file_length = lock(&self.rt, &mut medium, self.options.patience)?;
-        if file_length < self.cursor.position() {
-            medium.unlock();
-            return Err(FileFault::Damaged { at: file_length });
-        }
-        self.cursor.hold(file_length);
+        let patience = self.options.patience;
+        hold(&self.rt, &mut medium, &mut self.cursor, patience)?;
         self.is_locked = true;
         Ok(())
     }
@@ -344,10 +317,6 @@ impl<R: Files + AllocGlobal> FileLog<R> {
         ensures not_held { IfSome (why_not_held self.old.cursor.state)
             (λ why. (result ≡ Err why) × (self.new.cursor ≡ record self.old.cursor { found = 0 })) }
     {
-        if let Some(why) = self.cursor.why_not_held() {
-            self.cursor.find(0);
-            return Err(why);
-        }
         next_at(
             &self.rt,
             &self.path,
@@ -367,22 +336,15 @@ impl<R: AllocGlobal> FileLog<R> {
         ensures same { self.new ≡ record self.old { cursor = self.new.cursor } }
         ensures not_held { IfSome (why_not_held self.old.cursor.state) (λ why. result ≡ Err why) }
     {
-        if let Some(why) = self.cursor.why_not_held() {
-            return Err(why);
-        }
-        if !self.cursor.is_read() {
-            return Err(FileFault::Unread);
-        }
-        match encode(self.rt.alloc(), entry) {
-            Ok(form) => append_at(
-                &mut LockedFile::new(&self.file),
-                &mut self.cursor,
-                &form,
-                self.options.synchronizes,
-            ),
-            Err(EncodeError::OutOfMemory) => Err(FileFault::OutOfMemory),
-            Err(EncodeError::TooLong) => Err(FileFault::TooLong),
-        }
+        let mut medium = LockedFile::new(&self.file);
+        let synchronizes = self.options.synchronizes;
+        append(
+            self.rt.alloc(),
+            &mut medium,
+            &mut self.cursor,
+            entry,
+            synchronizes,
+        )
     }
 }
 
@@ -446,7 +408,7 @@ impl<R: Files<File = File> + Clock + AllocGlobal> Log for FileLog<R> {
     fn accept(&mut self)
         ensures { self.new ≡ record self.old { cursor = accepted self.old.cursor } }
     {
-        self.cursor.accept();
+        accept(&LockedFile::new(&self.file), &mut self.cursor);
     }
 
     /// Where a part of the entry may stand that could not be taken back, or come back with the power though the options
@@ -470,8 +432,7 @@ impl<R: Files<File = File> + Clock + AllocGlobal> Log for FileLog<R> {
     fn let_go(&mut self)
         ensures { self.new ≡ freed self.old }
     {
-        let _ = self.file.unlock();
-        self.cursor.let_go();
+        let_go(&mut LockedFile::new(&self.file), &mut self.cursor);
         self.is_locked = false;
     }
 

@@ -16,13 +16,19 @@
 //! whether an append stands, each call is refused by that name. Handles begin after the header (`new_handle`);
 //! errors of `open` and `open_existing` have the path; `path::split` is exact.
 //!
-//! `bytes` is how a handle locks, reads, writes and cuts off, over any `Medium`: bytes under a lock, known where they
-//! can be (`Known`). The lock is had only where the medium grants it, what was read ahead stands at the position
-//! (`Reading`), an append leaves its bytes behind all others (`AppendsBytes`), or the bytes as they were, or is in doubt
-//! by name, and a cut leaves what stands before the position (`EndsAt`). The new file of a compaction is read back, and
-//! taken only if it holds just what was written (`Holds`). Each change asks that what others may know of stays
-//! (`MayChangeFrom`). A file is such a medium by `LockedFile`, whose few lines are trusted: of what a real file
-//! holds nothing is known.
+//! `bytes` is how a handle locks, reads and writes, over any `Medium`: bytes under a lock, known where they can be
+//! (`Known`). The lock is had only where the medium grants it, what was read ahead stands at the position (`Reading`),
+//! and each change asks that what others may know of stays (`MayChangeFrom`). The new file of a compaction is read
+//! back, and taken only if it holds just what was written (`Holds`).
+//!
+//! `one_file` is how a handle holds a log, reads, appends and lets go in one file, over any medium: `FileLog` calls it
+//! for a real one. Where the bytes are known, so are the contents: the entries to which they come (`contents_of`). Each
+//! call keeps what is true of a handle (`Fits`): what others appended is behind what was unread, `next` shows the first
+//! unread entry, `accept` takes it over, and an append is the last one. What is torn, and a mark, is cut off and is no
+//! entry. `OneFileLog` is a log over any medium by this code, with known contents; it goes to no other file. What it
+//! has taken is a front of what the bytes come to at any later moment (`law_of_one_list`).
+//!
+//! A file is a medium by `LockedFile`, whose few lines are trusted: of what a real file holds nothing is known.
 #![tactic(auto)]
 
 pub mod ahead;
@@ -35,6 +41,8 @@ pub mod header;
 pub mod locked_file;
 pub mod medium;
 pub mod memory;
+pub mod one_file;
+pub mod one_file_log;
 pub mod opening;
 pub mod options;
 pub mod path;

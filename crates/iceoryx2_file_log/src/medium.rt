@@ -5,6 +5,7 @@ ghost use Rattle.iceoryx2_file_log.specs.Errors.{IsOfFile};
 ghost use Rattle.iceoryx2_file_log.specs.Medium.{Known, Becomes, IsFree, IsLocked, Tries, Unlocks, Reads};
 ghost use Rattle.iceoryx2_file_log.specs.Medium.{MayChangeFrom, Writes, WritesSome, CutsTo, Synchronizes};
 ghost use Rattle.iceoryx2_file_log.specs.Medium.{KeepsAlone, KeepsInTurn, MoreKeeps, CutKeeps};
+ghost use Rattle.iceoryx2_file_log.specs.Turns.{TurnsKeep};
 
 use crate::error::FileFault;
 
@@ -60,4 +61,8 @@ pub fn laws_of_media()
     ensures in_turn { KeepsInTurn }
     ensures more { MoreKeeps }
     ensures cut { CutKeeps }
+
+    // So do any number of handles that change it only where they may, one after the other, each of which may be killed
+    // at any moment: what the next lock finds is what `try_lock` says.
+    ensures turns { TurnsKeep }
 {}

@@ -1,10 +1,8 @@
 //! A file in memory, for tests: what it holds is known, and what others do and what refuses is handed in.
 
-ghost use Rattle.std.specs.Prelude.{◌≡◌, ◌≤◌, false, length, IfOk};
-ghost use Rattle.iceoryx2_file_log.specs.Medium.{written, MayChangeFrom};
-ghost use Rattle.iceoryx2_file_log.specs.Bytes.{Reading};
+ghost use Rattle.std.specs.Prelude.{◌≡◌, ◌≤◌, ◌↔◌, false, length, IfOk, IsTrue};
+ghost use Rattle.iceoryx2_file_log.specs.Medium.{written};
 
-use crate::cursor::Cursor;
 use crate::error::FileFault;
 use crate::medium::Medium;
 use std::alloc::{AllocError, Global};
@@ -90,38 +88,11 @@ impl MemoryFile {
         &self.bytes
     }
 
-    /// Takes the lock, and stands at the end. `Busy` where others have it.
-    pub fn hold_end(&mut self) -> Result<Cursor, FileFault>
-        requires { IsFree (known_of self.old) }
-        ensures reading { IfOk result (λ cursor. Reading cursor (known_of self.new)) }
-        ensures may { IfOk result (λ cursor. MayChangeFrom cursor.position (known_of self.new)) }
-        ensures all_read { IfOk result (λ cursor. cursor.file_length ≡ cursor.position) }
+    /// Whether nobody has the lock.
+    pub fn is_free(&self) -> bool
+        ensures { IsTrue result ↔ IsFree (known_of self.now) }
     {
-        match self.try_lock() {
-            Ok(Some(file_length)) => {
-                let mut cursor = Cursor::new(self.alloc, file_length);
-                cursor.hold(file_length);
-                Ok(cursor)
-            }
-            Ok(None) => Err(FileFault::Busy),
-            Err(why) => Err(why),
-        }
-    }
-
-    /// Takes the lock, and stands at this place, or at the end where that is before it.
-    pub fn hold_at(&mut self, position: u64) -> Result<Cursor, FileFault>
-        requires { IsFree (known_of self.old) }
-        ensures { IfOk result (λ cursor. Reading cursor (known_of self.new)) }
-    {
-        match self.try_lock() {
-            Ok(Some(file_length)) => {
-                let mut cursor = Cursor::new(self.alloc, position.min(file_length));
-                cursor.hold(file_length);
-                Ok(cursor)
-            }
-            Ok(None) => Err(FileFault::Busy),
-            Err(why) => Err(why),
-        }
+        !self.is_locked
     }
 }
 

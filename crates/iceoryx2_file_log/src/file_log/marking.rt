@@ -2,18 +2,20 @@
 
 ghost use Rattle.std.specs.Prelude.{◌≡◌, ◌≤◌, ◌⊎◌, ◌↔◌, None, OnOk, OnErr, IfErr, IsTrue, length};
 ghost use Rattle.std.specs.IoError.{error_kind};
+ghost use Rattle.iceoryx2_file_log.specs.declared.cursor.State.TheVariants as state;
 ghost use Rattle.iceoryx2_file_log.specs.declared.error.FileFault.TheVariants as fault;
 ghost use Rattle.iceoryx2_file_log.specs.Errors.{kind_fault, IsOfFile};
 ghost use Rattle.iceoryx2_file_log.specs.Compaction.{IsMark, BeginsWithMark, MayBeCut, snapshot_end};
 ghost use Rattle.iceoryx2_file_log.specs.Place.{left, cut};
 ghost use Rattle.iceoryx2_file_log.specs.Handle.{CutsMark, IsSureOfCuts};
 
-use crate::bytes::{cut_off, take_back, write};
+use crate::bytes::{take_back, write};
 use crate::compaction::is_before_end;
 use crate::cursor::Cursor;
 use crate::error::{FileFault, system_fault};
 use crate::header::Header;
 use crate::locked_file::LockedFile;
+use crate::one_file::cut_end;
 use crate::opening::{FileNumber, looked_up, number_of, sync_folder};
 use std::fs::{self, File};
 use std::os::unix::fs::MetadataExt;
@@ -66,7 +68,8 @@ pub(super) fn cut_mark(
     count: usize,
     synchronizes: bool,
 ) -> Result<(), FileFault>
-    requires { BeginsWithMark cursor.old.ahead count }
+    requires mark { BeginsWithMark cursor.old.ahead count }
+    requires held { cursor.old.state ≡ state.Held }
     ensures ok { OnOk result (cursor.new ≡ cut cursor.old) }
     ensures cuts { (cursor.new ≡ cursor.old) ⊎ CutsMark cursor.old cursor.new }
     ensures sure { IfErr result (λ why. IsSureOfCuts synchronizes why cursor.old cursor.new) }
@@ -80,7 +83,7 @@ pub(super) fn cut_mark(
     if !has_path(rt, path, file)? {
         return Err(FileFault::Moved);
     }
-    cut_off(&mut LockedFile::new(file), cursor, synchronizes)
+    cut_end(&mut LockedFile::new(file), cursor, synchronizes)
 }
 
 /// Writes the mark at this place, and gives the path to the file beside.

@@ -1,4 +1,5 @@
 use Rattle.iceoryx2_file_log.proofs.Keeping.{keeps_alone, keeps_in_turn, more_keeps, cut_keeps}
+use Rattle.iceoryx2_file_log.proofs.Turning.{turns_keep}
 use Rattle.iceoryx2_file_log.proofs.medium.laws_of_media.Goals as goal
 
 pub returns-clause-alone : goal.returns-clause-alone
@@ -12,3 +13,6 @@ returns-clause-more c = more_keeps
 
 pub returns-clause-cut : goal.returns-clause-cut
 returns-clause-cut c = cut_keeps
+
+pub returns-clause-turns : goal.returns-clause-turns
+returns-clause-turns c = turns_keep
