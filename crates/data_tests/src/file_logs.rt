@@ -124,7 +124,7 @@ pub fn append(log: &mut Handle<'_>) -> Result<(), LogError> {
 }
 
 /// Takes over the next entry, and returns whether it is the lock; `None` where there is none.
-fn take_next(log: &mut Handle<'_>) -> Result<Option<bool>, LogError> {
+fn take_next<L: Log>(log: &mut L) -> Result<Option<bool>, LogError> {
     match log.next() {
         Ok(Some(entry)) => {
             log.accept();
@@ -136,7 +136,7 @@ fn take_next(log: &mut Handle<'_>) -> Result<Option<bool>, LogError> {
 }
 
 /// Holds the log, takes over the next two entries, where there are any, and lets go of it.
-pub fn take_two(log: &mut Handle<'_>) -> [Result<Option<bool>, LogError>; 2] {
+pub fn take_two<L: Log>(log: &mut L) -> [Result<Option<bool>, LogError>; 2] {
     if let Err(error) = log.hold() {
         return [Err(error), Err(error)];
     }
@@ -228,8 +228,18 @@ fn read(
     Some((taken, same, log.state()))
 }
 
+/// What is taken over of a file that holds this, and whether it holds that from then on.
+pub fn read_from_file(
+    rt: &HostRuntime,
+    parts: &[&[u8]],
+    left: &[&[u8]],
+) -> Option<([Result<Option<bool>, LogError>; 2], bool)> {
+    let (taken, same, _) = read(rt, parts, left)?;
+    Some((taken, same))
+}
+
 /// The entry's form where the byte at a place is another.
-fn changed(place: usize) -> [u8; 53] {
+pub fn changed(place: usize) -> [u8; 53] {
     let mut bytes = LOCK;
     if place < bytes.len() {
         bytes[place] ^= 1;
@@ -246,15 +256,9 @@ fn torn(
 }
 
 #[test]
-fn what_a_writer_left_that_died_is_cut_off(rt: HostRuntime) {
-    let found = [
-        torn(&rt, &LOCK[..3]),
-        torn(&rt, &LOCK[..52]),
-        torn(&rt, &changed(8)),
-        torn(&rt, &MARK),
-    ];
+fn a_mark_of_a_log_that_stayed_is_cut_off(rt: HostRuntime) {
     let cut = Some(([Ok(Some(true)), Ok(None)], true, State::Free));
-    assert_same(&rt, found, [cut, cut, cut, cut]);
+    assert_same(&rt, torn(&rt, &MARK), cut);
 }
 
 /// What is taken over where this stands between two entries, if it stays.
@@ -268,17 +272,13 @@ fn damaged(
 
 #[test]
 fn damage_between_entries_stays(rt: HostRuntime) {
-    let found = [
-        damaged(&rt, &changed(4)),
-        damaged(&rt, &changed(8)),
-        damaged(&rt, &MARK),
-    ];
+    let found = [damaged(&rt, &changed(8)), damaged(&rt, &MARK)];
     let stays = Some((
         [Ok(Some(true)), Err(LogError::Damaged)],
         true,
         State::Damaged { at: 101 },
     ));
-    assert_same(&rt, found, [stays, stays, stays]);
+    assert_same(&rt, found, [stays, stays]);
 }
 
 /// What is answered by a handle whose file has become shorter than what it has taken over.
@@ -632,28 +632,54 @@ fn a_log_is_held_and_read_before_it_is_compacted(rt: HostRuntime) {
     assert_same(&rt, compacted_early(&rt), Some((answers, 15)));
 }
 
-/// What a handle answers that compacts where a folder has its path, by what, and where it stands then. And whether its
-/// file ends without a mark, and nothing is beside it.
-fn moved_to_folder(
+/// Makes a folder of this path, or another log.
+fn make(rt: &HostRuntime, path: &str, is_folder: bool) -> Option<()> {
+    if is_folder {
+        return fs::create_dir(rt, path).ok();
+    }
+    fill(rt, path, &[&HEADER])
+}
+
+/// Removes it. `None` where it isn't what was made there.
+fn remove(rt: &HostRuntime, path: &str, is_folder: bool) -> Option<()> {
+    if is_folder {
+        return fs::remove_dir(rt, path).ok();
+    }
+    let is_same = holds(rt, path, &[&HEADER])?;
+    fs::remove_file(rt, path).ok()?;
+    if is_same { Some(()) } else { None }
+}
+
+/// What a handle answers that compacts after its log was renamed and something else made at the path, by what, and
+/// whether its file ends without a mark, and nothing is beside it.
+fn compacted_without_path(
     rt: &HostRuntime,
-) -> Option<(Result<(), LogError>, Option<FileFault>, u64, bool)> {
+    is_folder: bool,
+) -> Option<(Result<(), LogError>, Option<FileFault>, bool)> {
     let path = long_file(rt, 15)?;
     let mut log = open(rt, &path, Sharing::User).ok()?;
     let kept = format!(in rt.alloc(); "{path}.kept").ok()?;
     fs::rename(rt, path.as_str(), kept.as_str()).ok()?;
-    fs::create_dir(rt, path.as_str()).ok()?;
+    make(rt, &path, is_folder)?;
     let answer = compact_held(&mut log);
     let length = fs::metadata(rt, kept.as_str()).ok()?.len();
     let left = fs::exists(rt, beside(rt, &path)?.as_str()).ok()?;
-    fs::remove_dir(rt, path.as_str()).ok()?;
+    remove(rt, &path, is_folder)?;
     fs::remove_file(rt, kept.as_str()).ok()?;
-    Some((answer, log.fault(), log.position(), length == 843 && !left))
+    Some((answer, log.fault(), length == 843 && !left))
 }
 
 #[test]
-fn a_log_that_cannot_move_stays(rt: HostRuntime) {
-    let stays = (Err(LogError::Failed), Some(FileFault::IsAFolder), 843, true);
-    assert_same(&rt, moved_to_folder(&rt), Some(stays));
+fn a_log_that_lost_its_path_is_not_compacted(rt: HostRuntime) {
+    let found = [
+        compacted_without_path(&rt, true),
+        compacted_without_path(&rt, false),
+    ];
+    let wanted = [
+        Some((Err(LogError::Failed), None, true)),
+        Some((Err(LogError::Moved), None, true)),
+    ];
+    assert_same(&rt, found, wanted);
 }
 
 /// How a handle is sent to a path that a file of this header has now, by what it is refused, and what it takes over of

@@ -1,14 +1,20 @@
-//! Processes over a log whose entries are known: one compacts it, and others find that it has moved.
+//! Processes over a log whose entries are known: one compacts it, and others find that it has moved; and over one in a
+//! file in memory, whose entries are those to which its bytes come.
 
 use crate::journals::placed_log::PlacedLog;
 use crate::journals::recording::{Recorded, Recording};
 use crate::journals::schedules::drawn_command;
 use crate::journals::support::{assert_same, copies, granted, reply_of};
+use iceoryx2_file_log::header::{HEADER_LENGTH, Header, LogName, encode};
+use iceoryx2_file_log::memory::{MemoryFile, NOTHING_REFUSED};
+use iceoryx2_file_log::one_file_log::OneFileLog;
 use iceoryx2_journal::journal::{Journal, Shared};
 use iceoryx2_log::entry::Entry;
+use iceoryx2_log::log::Log;
 use iceoryx2_world::listing;
 use std::alloc::Global;
 use std::process::Abort;
+use std::time::Duration;
 use test_support::body::Body;
 use test_support::places::Places;
 use test_support::plain::Plain;
@@ -19,10 +25,11 @@ const COMMANDS: u64 = 24;
 /// From how many entries on a log is long.
 const LONG_FROM: usize = 12;
 
-/// A process with the nodes 1 to 3 after the commands of a schedule, each of which it was answered as the plain table.
-fn worked(rt: &impl Abort, alloc: Global, schedule: u64) -> Journal<PlacedLog> {
+/// A process with the nodes 1 to 3 over this log after the commands of a schedule, each of which it was answered as the
+/// plain table.
+fn worked<L: Log + Drop>(rt: &impl Abort, alloc: Global, log: L, schedule: u64) -> Journal<L> {
     let nodes = granted(rt, [1, 2, 3].to_vec(alloc));
-    let mut journal = Journal::starting_at(alloc, PlacedLog::new(alloc, LONG_FROM), nodes, 0);
+    let mut journal = Journal::starting_at(alloc, log, nodes, 0);
     let mut places = granted(rt, Places::new(alloc));
     let mut in_plain = granted(rt, Places::new(alloc));
     let mut table = Recording::new(alloc, Vec::new(alloc));
@@ -30,7 +37,7 @@ fn worked(rt: &impl Abort, alloc: Global, schedule: u64) -> Journal<PlacedLog> {
     for command in 0..COMMANDS {
         let mut again = seed;
         let drawn = drawn_command(rt, alloc, 1, &mut seed);
-        let found = reply_of::<Shared<PlacedLog>>(&mut places, &mut journal, drawn);
+        let found = reply_of::<Shared<L>>(&mut places, &mut journal, drawn);
         let drawn = drawn_command(rt, alloc, 1, &mut again);
         let wanted = reply_of::<Recorded>(&mut in_plain, &mut table, drawn);
         assert_same(
@@ -75,7 +82,7 @@ fn a_moved_log_comes_to_the_same_unless_it_has_an_own_node(rt: HostRuntime) {
     let mut moved = 0u64;
     let mut over = 0u64;
     for schedule in 6000..6100 {
-        let journal = worked(&rt, alloc, schedule);
+        let journal = worked(&rt, alloc, PlacedLog::new(alloc, LONG_FROM), schedule);
         let entries = journal.log().entries();
         let length = journal.log().snapshot_length();
         if length > 0 {
@@ -93,4 +100,57 @@ fn a_moved_log_comes_to_the_same_unless_it_has_an_own_node(rt: HostRuntime) {
     }
     let enough = (moved >= FEWEST, over >= FEWEST);
     assert_same(&rt, (moved, over, enough), (moved, over, (true, true)));
+}
+
+// ---- a file in memory
+
+/// The header of the log in memory.
+const HEADER: Header = Header {
+    name: LogName([7; 16]),
+    counter: 0,
+    snapshot_length: 0,
+};
+
+/// A handle of the log in a file in memory of these bytes, if they are enough for a header. A read gives a hundred of
+/// them.
+fn handle<'a>(
+    rt: &'a HostRuntime,
+    bytes: Vec<u8>,
+) -> Option<OneFileLog<&'a HostRuntime, MemoryFile>> {
+    let alloc = rt.alloc();
+    if bytes.len() < HEADER_LENGTH {
+        return None;
+    }
+    let file = MemoryFile::new(alloc, bytes, Vec::new(alloc), NOTHING_REFUSED, 100);
+    let patience = Duration::from_millis(0);
+    Some(OneFileLog::new(rt, file, HEADER, true, patience, 0))
+}
+
+/// How many bytes of entries the schedules leave together at least.
+const FEWEST_BYTES: usize = 10_000;
+
+#[test]
+fn a_file_in_memory_is_read_as_it_was_written(rt: HostRuntime) {
+    let alloc = rt.alloc();
+    let mut written = 0usize;
+    for schedule in 7000..7050 {
+        let empty = granted(&rt, encode(alloc, &HEADER));
+        let Some(log) = handle(&rt, empty) else {
+            continue;
+        };
+        let journal = worked(&rt, alloc, log, schedule);
+        let bytes = journal.log().medium().bytes();
+        written = written.saturating_add(bytes.len());
+        let copy = granted(&rt, Vec::from_slice(alloc, bytes));
+        let Some(log) = handle(&rt, copy) else {
+            continue;
+        };
+        let nodes = granted(&rt, [11].to_vec(alloc));
+        let mut other = Journal::starting_at(alloc, log, nodes, 0);
+        other.refresh();
+        let found = (other.is_over(), granted(&rt, other.list()));
+        let wanted = (false, granted(&rt, journal.list()));
+        assert_same(&rt, (schedule, found), (schedule, wanted));
+    }
+    assert_same(&rt, (written, written >= FEWEST_BYTES), (written, true));
 }
