@@ -2,7 +2,7 @@
 
 ghost use Rattle.std.specs.Prelude.{◌≡◌, string_bytes};
 ghost use Rattle.std.specs.IoError.{error_kind};
-ghost use Rattle.iceoryx2_file_log.specs.Errors.{kind_fault, log_error_of, IsOfFile};
+ghost use Rattle.iceoryx2_file_log.specs.Errors.{kind_fault, kind_text, log_error_of, IsOfFile};
 
 use iceoryx2_log::log::LogError;
 use std::error::Error;
@@ -46,6 +46,10 @@ pub enum FileFault {
     Unsure,
     /// The log goes on in another file, which has the path now.
     Moved,
+    /// The file has the log's path no more: it was removed or renamed, or another file was renamed over it. Comes where
+    /// nothing of the file is unread, and of an append. And where a log is to go on in another file, and none has the
+    /// path.
+    Removed,
     /// The file that has the path now is that of another log.
     AnotherLog,
     /// The file has fewer than eight times the bytes that it would have after a compaction.
@@ -54,10 +58,25 @@ pub enum FileFault {
     Failed { kind: ErrorKind },
 }
 
+/// What the system refused by, where no other fault says so.
+fn refusal_text(kind: ErrorKind) -> &'static str
+    ensures { result.now ≡ kind_text kind }
+{
+    match kind {
+        ErrorKind::NotFound => "there is no such file or folder",
+        ErrorKind::NotADirectory => "a part of its path is no folder",
+        ErrorKind::InvalidFilename => "its name is too long",
+        ErrorKind::FileTooLarge => "the file would be too long",
+        ErrorKind::InvalidData => "a new file holds other bytes than were written to it",
+        _ => "the system refused",
+    }
+}
+
 impl fmt::Display for FileFault {
+    ghost use Rattle.std.specs.Prelude.{Some};
     ghost use Rattle.iceoryx2_file_log.specs.Errors.{fault_text};
 
-    ghost output = { fault_text };
+    ghost output = { λ fault. Some (fault_text fault) };
 
     fn fmt<W: fmt::Write>(&self, f: &mut fmt::Formatter<W>) -> fmt::Result {
         match self {
@@ -77,9 +96,10 @@ impl fmt::Display for FileFault {
             FileFault::Unread => write!(f, "entries of others are unread"),
             FileFault::Unsure => write!(f, "a failed append may stand in the log"),
             FileFault::Moved => write!(f, "the log has moved"),
+            FileFault::Removed => write!(f, "was removed or renamed"),
             FileFault::AnotherLog => write!(f, "is another log"),
             FileFault::NothingSaved => write!(f, "a compaction would save too little"),
-            FileFault::Failed { kind } => write!(f, "{kind}"),
+            FileFault::Failed { kind } => write!(f, "{}", refusal_text(*kind)),
         }
     }
 }
@@ -120,10 +140,10 @@ impl FileLogError {
 }
 
 impl fmt::Display for FileLogError {
-    ghost use Rattle.std.specs.Prelude.{string_bytes};
+    ghost use Rattle.std.specs.Prelude.{Some, string_bytes};
     ghost use Rattle.iceoryx2_file_log.specs.Errors.{file_log_error_text};
 
-    ghost output = { λ error. file_log_error_text (string_bytes error.path) error.fault };
+    ghost output = { λ error. Some (file_log_error_text (string_bytes error.path) error.fault) };
 
     fn fmt<W: fmt::Write>(&self, f: &mut fmt::Formatter<W>) -> fmt::Result {
         write!(f, "{}: {}", self.path, self.fault)

@@ -1,5 +1,5 @@
 -- Why a node isn't claimed, or not looked at: what it comes from, and the texts.
-use Rattle.std.specs.Prelude.{ℕ, ◌≡◌, ◌⊎◌, Bool, true, false, List, [], ◌++◌, Option, Some, option_map}
+use Rattle.std.specs.Prelude.{ℕ, ◌≡◌, ◌⊎◌, Bool, true, false, List, [], ◌++◌}
 use Rattle.std.specs.Prelude.{string_bytes, codes, decimal}
 use Rattle.iceoryx2_file_log.specs.declared.error.FileFault.{FileFault}
 use Rattle.iceoryx2_file_log.specs.declared.error.FileFault.TheVariants as file
@@ -60,12 +60,11 @@ IsFreeClaimError log error = ((string_bytes error.path ≡ log) × (error.fault 
 
 -- ---- texts
 
--- `None` where the text is the system's own name of what it refused.
-abbrev pub fault_text : MonitoringFault → Option (List ℕ)
-fault_text (NodeIsAlive node) = Some (codes "node " ++ decimal node ++ codes " is alive")
-fault_text NoFreeNode = Some (codes "no node up to 65535 is free")
+abbrev pub fault_text : MonitoringFault → List ℕ
+fault_text (NodeIsAlive node) = codes "node " ++ decimal node ++ codes " is alive"
+fault_text NoFreeNode = codes "no node up to 65535 is free"
 fault_text (File fault) = file_fault_text fault
 
 -- the path, and why it refused
-abbrev pub monitoring_error_text : List ℕ → MonitoringFault → Option (List ℕ)
-monitoring_error_text path fault = option_map (λ text. path ++ codes ": " ++ text) (fault_text fault)
+abbrev pub monitoring_error_text : List ℕ → MonitoringFault → List ℕ
+monitoring_error_text path fault = path ++ codes ": " ++ fault_text fault

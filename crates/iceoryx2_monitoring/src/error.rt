@@ -28,9 +28,10 @@ pub enum MonitoringFault {
 }
 
 impl fmt::Display for MonitoringFault {
+    ghost use Rattle.std.specs.Prelude.{Some};
     ghost use Rattle.iceoryx2_monitoring.specs.Errors.{fault_text};
 
-    ghost output = { fault_text };
+    ghost output = { λ fault. Some (fault_text fault) };
 
     fn fmt<W: fmt::Write>(&self, f: &mut fmt::Formatter<W>) -> fmt::Result {
         match self {
@@ -78,10 +79,10 @@ impl MonitoringError {
 }
 
 impl fmt::Display for MonitoringError {
-    ghost use Rattle.std.specs.Prelude.{string_bytes};
+    ghost use Rattle.std.specs.Prelude.{Some, string_bytes};
     ghost use Rattle.iceoryx2_monitoring.specs.Errors.{monitoring_error_text};
 
-    ghost output = { λ error. monitoring_error_text (string_bytes error.path) error.fault };
+    ghost output = { λ error. Some (monitoring_error_text (string_bytes error.path) error.fault) };
 
     fn fmt<W: fmt::Write>(&self, f: &mut fmt::Formatter<W>) -> fmt::Result {
         write!(f, "{}: {}", self.path, self.fault)

@@ -26,7 +26,6 @@ default_path s =
     (first_of (option_map (λ folder. log_in (string_bytes folder ++ codes "/wulameron")) s.runtime)
     (option_map (λ user. log_in (shared_memory_folder user)) s.user))
 
--- `None` where the text is the system's own name of what it refused
-abbrev pub folder_error_text : FolderError → Option (List ℕ)
-folder_error_text error.NotOwn = Some (codes "is no folder of this user's alone; name a log with --at")
-folder_error_text (error.Refused f) = option_map (λ text. text ++ codes "; name a log with --at") (fault_text f)
+abbrev pub folder_error_text : FolderError → List ℕ
+folder_error_text error.NotOwn = codes "is no folder of this user's alone; name a log with --at"
+folder_error_text (error.Refused f) = fault_text f ++ codes "; name a log with --at"

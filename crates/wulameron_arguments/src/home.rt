@@ -134,9 +134,10 @@ pub enum FolderError {
 }
 
 impl fmt::Display for FolderError {
+    ghost use Rattle.std.specs.Prelude.{Some};
     ghost use Rattle.wulameron_arguments.specs.Home.{folder_error_text};
 
-    ghost output = { folder_error_text };
+    ghost output = { λ error. Some (folder_error_text error) };
 
     fn fmt<W: fmt::Write>(&self, f: &mut fmt::Formatter<W>) -> fmt::Result {
         match self {

@@ -1,6 +1,8 @@
 -- What goes wrong at a log, and what is written of it.
 use Rattle.std.specs.Prelude.{◌≡◌, ℕ, Bool, true, false, List, ◌++◌, Option, Some, None, Result, Ok, Err}
 use Rattle.std.specs.Prelude.{option_map, codes}
+use Rattle.std.specs.declared.io.ErrorKind.{ErrorKind}
+use Rattle.std.specs.declared.io.ErrorKind.TheVariants as system
 use Rattle.iceoryx2_file_log.specs.declared.error.FileFault.{FileFault}
 use Rattle.iceoryx2_file_log.specs.declared.error.FileFault.TheVariants as file
 use Rattle.iceoryx2_file_log.specs.Errors.{fault_text}
@@ -21,11 +23,12 @@ concern_of (Some file.Moved) = None
 concern_of (Some file.NothingSaved) = None
 concern_of other = other
 
--- a log that is over, is damaged, or may have an entry that nobody knows of isn't used any more
+-- a log that is over, is damaged, has lost its path, or may have an entry that nobody knows of isn't used any more
 abbrev pub is_last : Trouble → Bool
 is_last trouble.Over = true
 is_last (trouble.Refused (file.Damaged at)) = true
 is_last (trouble.Refused file.Unsure) = true
+is_last (trouble.Refused file.Removed) = true
 is_last (trouble.Refused other) = false
 
 -- the trouble, where it is the last one
@@ -36,6 +39,13 @@ only_last t false = None
 abbrev pub last_of : Option Trouble → Option Trouble
 last_of None = None
 last_of (Some t) = only_last t (is_last t)
+
+-- what can be done where the system refused by this kind
+abbrev pub kind_advice_of : ErrorKind → List ℕ
+kind_advice_of system.NotFound = codes "make its folder, or name another file"
+kind_advice_of system.NotADirectory = codes "name another file"
+kind_advice_of system.InvalidFilename = codes "name another file"
+kind_advice_of kind = codes "see whether its disk works"
 
 -- what can be done where a file refused
 abbrev pub advice_of : FileFault → List ℕ
@@ -55,14 +65,14 @@ advice_of file.NotHeld = codes "start the program again"
 advice_of file.Unread = codes "start the program again"
 advice_of file.Unsure = codes "start the program again"
 advice_of file.Moved = codes "try again"
+advice_of file.Removed = codes "start the program again"
 advice_of file.AnotherLog = codes "start the program again"
 advice_of file.NothingSaved = codes "leave it"
-advice_of (file.Failed kind) = codes "see whether its disk works"
+advice_of (file.Failed kind) = kind_advice_of kind
 
--- `None` where the text is the system's own name of what it refused
 abbrev pub trouble_text : Trouble → Option (List ℕ)
 trouble_text trouble.Over = Some (codes "has an entry that this program can't follow; start it with a node of its own")
-trouble_text (trouble.Refused f) = option_map (λ text. text ++ codes "; " ++ advice_of f) (fault_text f)
+trouble_text (trouble.Refused f) = Some (fault_text f ++ codes "; " ++ advice_of f)
 
 -- the line of a trouble with the log of this path
 abbrev pub trouble_line : (path text : List ℕ) → List ℕ

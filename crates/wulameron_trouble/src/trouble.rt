@@ -4,7 +4,7 @@ ghost use Rattle.std.specs.Prelude.{◌≡◌, List, ℕ, Option, Some, Bool, If
 ghost use Rattle.iceoryx2_file_log.specs.declared.error.FileFault as declared-fault;
 ghost use Rattle.wulameron_trouble.specs.declared.trouble.Trouble as declared;
 ghost use Rattle.wulameron_trouble.specs.Troubles.{WritesLine, advice_of, is_last, last_of, trouble_line, trouble_of};
-ghost use Rattle.wulameron_trouble.specs.Troubles.{concern_of, trouble_text};
+ghost use Rattle.wulameron_trouble.specs.Troubles.{concern_of, kind_advice_of, trouble_text};
 ghost use Rattle.iceoryx2_monitoring.specs.Errors.{fault_text as claim_text};
 
 use iceoryx2_file_log::error::FileFault;
@@ -17,7 +17,7 @@ use negotiate_serve::output::write_out;
 use std::alloc::{AllocError, Global};
 use std::fmt;
 use std::fs::File;
-use std::io::Write;
+use std::io::{ErrorKind, Write};
 use std::rt::Files;
 use std::time::Clock;
 
@@ -41,9 +41,22 @@ impl Trouble {
             Trouble::Refused(fault) => match fault {
                 FileFault::Damaged { at: _ } => true,
                 FileFault::Unsure => true,
+                FileFault::Removed => true,
                 _ => false,
             },
         }
+    }
+}
+
+/// What can be done where the system refused by this kind.
+fn kind_advice(kind: ErrorKind) -> &'static str
+    ensures { result.now ≡ kind_advice_of kind }
+{
+    match kind {
+        ErrorKind::NotFound => "make its folder, or name another file",
+        ErrorKind::NotADirectory => "name another file",
+        ErrorKind::InvalidFilename => "name another file",
+        _ => "see whether its disk works",
     }
 }
 
@@ -68,9 +81,10 @@ pub fn advice(fault: FileFault) -> &'static str
         FileFault::Unread => "start the program again",
         FileFault::Unsure => "start the program again",
         FileFault::Moved => "try again",
+        FileFault::Removed => "start the program again",
         FileFault::AnotherLog => "start the program again",
         FileFault::NothingSaved => "leave it",
-        FileFault::Failed { kind: _ } => "see whether its disk works",
+        FileFault::Failed { kind } => kind_advice(kind),
     }
 }
 
@@ -208,8 +222,7 @@ pub fn report_claim<E: Write>(
     error: &MonitoringError,
     errors: &mut E,
 ) -> Result<(), ServeError>
-    ensures { (text : List ℕ) → claim_text error.now.fault ≡ Some text
-        → WritesLine (trouble_line (string_bytes error.now.path) text) result
+    ensures { WritesLine (trouble_line (string_bytes error.now.path) (claim_text error.now.fault)) result
         (E.contents errors.old) (E.contents errors.new) }
 {
     match line_of(alloc, error.path(), error.fault()) {
