@@ -1,9 +1,10 @@
 -- What the calls of a handle leave of where it stands.
 use Rattle.std.specs.Prelude.{ℕ, ◌+◌, ◌≡◌, ◌≢◌, ◌<◌, ◌≤◌, ◌⊎◌, Bool, true, false, List, ◌++◌, length, string_bytes}
-use Rattle.std.specs.Prelude.{Option, Some, None, IsTrue}
+use Rattle.std.specs.Prelude.{Option, Some, None, Result, Err, IfOk, IsTrue}
 use Rattle.iceoryx2_log.specs.declared.entry.Entry.{Entry}
 use Rattle.iceoryx2_log.specs.declared.entry.Deed.TheVariants.{Moved}
 use Rattle.iceoryx2_log.specs.declared.log.LogError.{LogError}
+use Rattle.iceoryx2_log.specs.declared.log.LogError.TheVariants as log
 use Rattle.iceoryx2_log.specs.Form.{IsForm, Begins}
 use Rattle.iceoryx2_file_log.specs.declared.error.FileFault.{FileFault}
 use Rattle.iceoryx2_file_log.specs.declared.error.FileFault.TheVariants as fault
@@ -33,6 +34,8 @@ pub record HandleFacts : Type 0 where
   pub tries_from : ℕ
   -- whether it has the lock of the file in which it stands
   pub is_locked : Bool
+  -- whether that file had the log's path no more when it was held last
+  pub is_away : Bool
 
 -- A held handle has the lock, and a free one hasn't. One that is used no more may have it.
 abbrev pub HasLock : State → Bool → Type 0
@@ -51,6 +54,7 @@ new_handle path options h = record {
   fault = None;
   tries_from = first_tried h;
   is_locked = false;
+  is_away = false;
 }
 
 -- A refused call answers by why it was refused, which is kept, and leaves the state after that.
@@ -121,6 +125,28 @@ pub record Appends (e : Entry) (old new : Place) : Type 0 where
   pub was_held : old.state ≡ Held
   pub all_read : old.file_length ≡ old.position
   pub is : new ≡ appended (length form) old
+
+-- ---- a file that has the log's path no more
+
+-- It doesn't end: where no entry is shown it refuses. Nothing is cut off.
+pub record IsAwayNext {E : Type 0} (result : Result (Option Entry) E) (old new : Place) : Type 0 where
+  pub no_end : IfOk result (λ found. found ≢ None)
+  pub uncut : new.file_length ≡ old.file_length
+
+-- It is held, and its file has the log's path no more.
+pub record IsHeldAway (f : HandleFacts) : Type 0 where
+  pub is_held : f.cursor.state ≡ Held
+  pub away : f.is_away ≡ true
+
+-- Nothing of the file is unread.
+pub record MeetsNoEntry (f : HandleFacts) : Type 0 where
+  pub is : IsHeldAway f
+  pub all_read : f.cursor.file_length ≡ f.cursor.position
+  pub past : snapshot_end f.header ≤ f.cursor.position
+
+-- It refuses by that name, which is kept.
+abbrev pub IsRemoved : {A : Type 0} → Result A LogError → Option FileFault → Type 0
+IsRemoved result kept = (result ≡ Err log.Failed) × (kept ≡ Some fault.Removed)
 
 -- with the next compaction tried when the file has 64 KiB more
 abbrev pub postponed : HandleFacts → HandleFacts

@@ -1,5 +1,5 @@
 -- What the calls of a handle leave by which a log goes on in another file.
-use Rattle.std.specs.Prelude.{ℕ, ◌≡◌, ◌≤◌, ◌⊎◌, List, length, Some, Result, Ok, Err}
+use Rattle.std.specs.Prelude.{ℕ, ◌≡◌, ◌≤◌, ◌⊎◌, false, List, length, Some, Result, Ok, Err}
 use Rattle.iceoryx2_log.specs.declared.entry.Entry.{Entry}
 use Rattle.iceoryx2_log.specs.declared.log.LogError.{LogError}
 use Rattle.iceoryx2_file_log.specs.declared.error.FileFault.{FileFault}
@@ -17,12 +17,13 @@ pub record OnlyRefuses (e : LogError) (old new : HandleFacts) : Type 0 where
   pub answer : e ≡ log_error_of why
   pub is : new ≡ record old { fault = Some why }
 
--- held at this place of the file of this header and length
+-- held at this place of the file of this header and length, which has the path
 abbrev pub stood : (position : ℕ) → Header → (file_length : ℕ) → HandleFacts → HandleFacts
 stood position h file_length f = record f {
   header = h;
   cursor = held file_length (start position);
   tries_from = first_tried h;
+  is_away = false;
 }
 
 -- It goes to the file that has the path now, which is of the same log, and stands before its first entry.

@@ -9,6 +9,9 @@
 //! Whoever still has the old file reads the mark, and goes to the file that has the path. A process that is killed
 //! meanwhile leaves one of both files as the log: the old one, where a mark that is its last entry is cut off as long
 //! as it has the path itself, or the new one.
+//!
+//! Each hold looks whether the file has the path. One that was removed or renamed nobody else finds: the handle reads
+//! it to its end, and refuses then (`away`).
 
 ghost use Rattle.std.specs.Prelude.{◌≡◌, ◌≤◌, ◌<◌, ◌⊎◌, ◌↔◌, ◌++◌, List, ℕ, length, None, Some, Ok, Err};
 ghost use Rattle.std.specs.Prelude.{IfOk, IfErr, OnOk, OnErr, IfSome, IsTrue, true, false, nat_lt, string_bytes};
@@ -25,12 +28,15 @@ ghost use Rattle.iceoryx2_file_log.specs.Place.{why_not_free, why_not_held};
 ghost use Rattle.iceoryx2_file_log.specs.Handle.{IsRefused, Holds, Shows, SparesEntries, Appends};
 ghost use Rattle.iceoryx2_file_log.specs.Handle.{ReadsOn, IsFront, IsErrorOf, Pauses, postponed, freed};
 ghost use Rattle.iceoryx2_file_log.specs.Handle.{IsNoMark, IsPastSnapshot, IsNotAcross, IsSureOfCuts, new_handle};
+ghost use Rattle.iceoryx2_file_log.specs.Handle.{IsAwayNext, IsHeldAway, MeetsNoEntry, IsRemoved};
 ghost use Rattle.iceoryx2_file_log.specs.Moving.{OnlyRefuses, Rejoins, Compacts, RefusesCompaction};
 
+mod away;
 mod beside;
 mod compacting;
 mod marking;
 
+use self::away::{is_away, next_away};
 use self::marking::cut_mark;
 use crate::bytes::pause_after;
 use crate::compaction::{first_tried, is_before_end, is_long, length_later};
@@ -39,12 +45,13 @@ use crate::error::{FileFault, FileLogError, log_error, system_fault};
 use crate::header::{HEADER_LENGTH, Header};
 use crate::locked_file::LockedFile;
 use crate::one_file::{Found, accept, append, hold, let_go, next};
-use crate::opening::{opened, reopened};
+use crate::opening::{FileNumber, FoundLog, opened, reopened};
 use crate::options::FileLogOptions;
 use iceoryx2_log::entry::Entry;
 use iceoryx2_log::log::{Log, LogError};
 use std::alloc::AllocError;
 use std::fs::File;
+use std::io::ErrorKind;
 use std::marker::Model;
 use std::random::RandomSource;
 use std::rt::Files;
@@ -55,6 +62,8 @@ use std::time::{Clock, Instant};
 pub struct FileLog<R> {
     rt: R,
     file: File,
+    /// The file's number since it was opened, or the log moved there.
+    number: FileNumber,
     path: String,
     options: FileLogOptions,
     header: Header,
@@ -67,6 +76,8 @@ pub struct FileLog<R> {
     tries_from: u64,
     /// Whether this handle has the lock of its file.
     is_locked: bool,
+    /// Whether the file had the log's path no more when it was held last.
+    is_away: bool,
 }
 
 impl<R> Model for FileLog<R> {
@@ -83,6 +94,7 @@ impl<R> Model for FileLog<R> {
       fault = log.fault;
       tries_from = log.tries_from;
       is_locked = log.is_locked;
+      is_away = log.is_away;
     } };
 
     ghost invariant = { λ log. HasLock log.cursor.state log.is_locked };
@@ -93,6 +105,7 @@ impl<R: Drop> Drop for FileLog<R> {
         let FileLog {
             rt: _,
             file: _,
+            number: _,
             path: _,
             options: _,
             header: _,
@@ -101,6 +114,7 @@ impl<R: Drop> Drop for FileLog<R> {
             wait_start: _,
             tries_from: _,
             is_locked: _,
+            is_away: _,
         } = self;
     }
 }
@@ -178,7 +192,10 @@ impl<R: Files<File = File> + Clock + RandomSource + AllocGlobal + Drop> FileLog<
         ensures new { IfOk result (λ log. log ≡ new_handle (string_bytes path) options log.header) }
         ensures err { IfErr result (λ error. error.path ≡ path) }
     {
-        let found = reopened(&rt, &path);
+        let missing = FileFault::Failed {
+            kind: ErrorKind::NotFound,
+        };
+        let found = reopened(&rt, &path, missing);
         FileLog::of_found(rt, path, options, found)
     }
 
@@ -187,16 +204,23 @@ impl<R: Files<File = File> + Clock + RandomSource + AllocGlobal + Drop> FileLog<
         rt: R,
         path: String,
         options: FileLogOptions,
-        found: Result<(File, Header), FileFault>,
+        found: Result<FoundLog, FileFault>,
     ) -> Result<FileLog<R>, FileLogError>
         ensures new { IfOk result (λ log. log ≡ new_handle (string_bytes path) options log.header) }
         ensures err { IfErr result (λ error. error.path ≡ path) }
     {
         let alloc = rt.alloc();
         match found {
-            Ok((file, header)) => Ok(FileLog {
+            Ok(
+                FoundLog {
+                    file,
+                    number,
+                    header,
+                },
+            ) => Ok(FileLog {
                 rt,
                 file,
+                number,
                 path,
                 options,
                 header,
@@ -205,6 +229,7 @@ impl<R: Files<File = File> + Clock + RandomSource + AllocGlobal + Drop> FileLog<
                 wait_start: None,
                 tries_from: first_tried(&header),
                 is_locked: false,
+                is_away: false,
             }),
             Err(fault) => Err(FileLogError::new(path, fault)),
         }
@@ -269,21 +294,29 @@ impl<R> FileLog<R> {
     }
 }
 
-impl<R: Clock> FileLog<R> {
+impl<R: Files + Clock> FileLog<R> {
+    /// Holds the log, and looks whether its file has the path.
     fn try_hold(&mut self) -> Result<(), FileFault>
         ensures ok { OnOk result (Holds self.old.cursor self.new.cursor) }
         ensures locks { OnOk result ((self.old.is_locked ≡ false) × (self.new.is_locked ≡ true)) }
         ensures err { OnErr result (self.new ≡ self.old) }
-        ensures same { self.new ≡ record self.old { cursor = self.new.cursor; is_locked = self.new.is_locked } }
+        ensures same { self.new ≡ record self.old {
+          cursor = self.new.cursor;
+          is_locked = self.new.is_locked;
+          is_away = self.new.is_away;
+        } }
         ensures not_free { IfSome (why_not_free self.old.cursor.state) (λ why. result ≡ Err why) }
     {
         let mut medium = LockedFile::new(&self.file);
         let patience = self.options.patience;
         hold(&self.rt, &mut medium, &mut self.cursor, patience)?;
         self.is_locked = true;
+        self.is_away = is_away(&self.rt, &self.path, self.number);
         Ok(())
     }
+}
 
+impl<R: Clock> FileLog<R> {
     /// Whether a wait goes on with the pause of this number. With the number 0 it begins.
     fn waits(&mut self, number: u64) -> bool
         ensures { self.new ≡ self.old }
@@ -316,7 +349,12 @@ impl<R: Files + AllocGlobal> FileLog<R> {
         ensures shown { nat_lt 0 self.new.cursor.found ≡ is_shown result }
         ensures not_held { IfSome (why_not_held self.old.cursor.state)
             (λ why. (result ≡ Err why) × (self.new.cursor ≡ record self.old.cursor { found = 0 })) }
+        ensures away { self.old.is_away ≡ true → IsAwayNext result self.old.cursor self.new.cursor }
+        ensures removed { MeetsNoEntry self.old → result ≡ Err fault.Removed }
     {
+        if self.is_away {
+            return next_away(self.rt.alloc(), &self.file, &self.header, &mut self.cursor);
+        }
         next_at(
             &self.rt,
             &self.path,
@@ -335,7 +373,14 @@ impl<R: AllocGlobal> FileLog<R> {
         ensures err { OnErr result (self.new.cursor ≡ self.old.cursor) }
         ensures same { self.new ≡ record self.old { cursor = self.new.cursor } }
         ensures not_held { IfSome (why_not_held self.old.cursor.state) (λ why. result ≡ Err why) }
+        ensures removed { IsHeldAway self.old → result ≡ Err fault.Removed }
     {
+        if let Some(why) = self.cursor.why_not_held() {
+            return Err(why);
+        }
+        if self.is_away {
+            return Err(FileFault::Removed);
+        }
         let mut medium = LockedFile::new(&self.file);
         let synchronizes = self.options.synchronizes;
         append(
@@ -356,7 +401,9 @@ impl<R: Files<File = File> + Clock + AllocGlobal> Log for FileLog<R> {
     ghost shown = { λ log. nat_lt 0 log.cursor.found };
 
     /// `Busy` where others held it as long as the options allow, and `Damaged` where the file is shorter than what was
-    /// taken over of it.
+    /// taken over of it. Each time it looks whether the file has the log's path. Where it surely hasn't, by a look that
+    /// the system permits, the log is held, but not used: `next` and `append` refuse by `Removed` until a later `hold`
+    /// finds that the file has its path back.
     fn hold(&mut self) -> Result<(), LogError>
         ensures ok { OnOk result (Holds self.old.cursor self.new.cursor × (self.new.fault ≡ self.old.fault)) }
         ensures err { IfErr result (λ e. IsRefused e self.new.fault self.old.cursor.state self.new.cursor.state) }
@@ -365,7 +412,9 @@ impl<R: Files<File = File> + Clock + AllocGlobal> Log for FileLog<R> {
           cursor = self.new.cursor;
           fault = self.new.fault;
           is_locked = self.new.is_locked;
+          is_away = self.new.is_away;
         } }
+        ensures away { OnErr result (self.new.is_away ≡ self.old.is_away) }
         ensures locks { OnOk result ((self.old.is_locked ≡ false) × (self.new.is_locked ≡ true)) }
         ensures not_locked { OnErr result (self.new.is_locked ≡ self.old.is_locked) }
 
@@ -382,6 +431,9 @@ impl<R: Files<File = File> + Clock + AllocGlobal> Log for FileLog<R> {
     /// What is left of the file is cut off where it is torn, or a mark of a file that has the path, and then there is
     /// no entry. `Moved` where what is left is a mark, and another file has the path. A snapshot that ends early, or
     /// within an entry, is damaged. Where the options synchronize and a cut could not be, the handle is used no more.
+    ///
+    /// Of a file that hadn't the log's path when it was held nothing is cut off, and where no entry and no mark is left
+    /// `Failed` comes, by `Removed`.
     fn next(&mut self) -> Result<Option<Entry>, LogError>
         ensures shows { IfOk result (λ found. Shows found self.old.cursor self.new.cursor) }
         ensures no_mark { IfOk result IsNoMark }
@@ -397,6 +449,8 @@ impl<R: Files<File = File> + Clock + AllocGlobal> Log for FileLog<R> {
         ensures shown { nat_lt 0 self.new.cursor.found ≡ is_shown result }
         ensures not_held { IfSome (why_not_held self.old.cursor.state)
             (λ why. (result ≡ Err (log_error_of why)) × (self.new.cursor ≡ record self.old.cursor { found = 0 })) }
+        ensures away { self.old.is_away ≡ true → IsAwayNext result self.old.cursor self.new.cursor }
+        ensures removed { MeetsNoEntry self.old → IsRemoved result self.new.fault }
     {
         match self.try_next() {
             Ok(found) => Ok(found),
@@ -412,7 +466,8 @@ impl<R: Files<File = File> + Clock + AllocGlobal> Log for FileLog<R> {
     }
 
     /// Where a part of the entry may stand that could not be taken back, or come back with the power though the options
-    /// synchronize, the handle is used no more.
+    /// synchronize, the handle is used no more. `Failed`, by `Removed`, where the file hadn't the log's path when it
+    /// was held.
     fn append(&mut self, entry: &Entry) -> Result<(), LogError>
         ensures ok { OnOk result (Appends entry.now self.old.cursor self.new.cursor
             × (self.new.fault ≡ self.old.fault)) }
@@ -422,6 +477,7 @@ impl<R: Files<File = File> + Clock + AllocGlobal> Log for FileLog<R> {
         ensures same { self.new ≡ record self.old { cursor = self.new.cursor; fault = self.new.fault } }
         ensures not_held { IfSome (why_not_held self.old.cursor.state) (λ why. (result ≡ Err (log_error_of why))
             × (self.new.cursor ≡ self.old.cursor) × (self.new.fault ≡ Some why)) }
+        ensures removed { IsHeldAway self.old → IsRemoved result self.new.fault }
     {
         match self.try_append(entry) {
             Ok(()) => Ok(()),
@@ -448,8 +504,8 @@ impl<R: Files<File = File> + Clock + AllocGlobal> Log for FileLog<R> {
         true
     }
 
-    /// Nothing changes but the fault where it is refused. `Failed` where the log isn't held, or the file that has the
-    /// path is of another log, and `Busy` where others held it as long as the options allow.
+    /// Nothing changes but the fault where it is refused. `Failed` where the log isn't held, the file that has the path
+    /// is of another log, or no file has it, and `Busy` where others held it as long as the options allow.
     fn rejoin(&mut self) -> Result<u64, LogError>
         ensures ok { IfOk result (λ counter. Rejoins counter self.old self.new) }
         ensures err { IfErr result (λ e. OnlyRefuses e self.old self.new) }

@@ -13,8 +13,11 @@
 //! has of each call what it makes of where the handle stands (`Place`): `next` shows the entry with which the bytes
 //! that it read begin; the file gets shorter only where all that is left is torn, or a mark (`SparesEntries`);
 //! `append` puts the whole form at the end (`Appends`) or leaves the position. After damage, or where nobody knows
-//! whether an append stands, each call is refused by that name. Handles begin after the header (`new_handle`);
-//! errors of `open` and `open_existing` have the path; `path::split` is exact.
+//! whether an append stands, each call is refused by that name. Where a handle found when it was held that its file
+//! has the log's path no more, `next` never says that no entry is left, cuts nothing off (`IsAwayNext`), and `Removed`
+//! comes where all is read, and of each append (`IsRemoved`). What a rename has done that reports an error is what the
+//! path then tells (`marking::renamed_though`). Handles begin after the header (`new_handle`); errors of `open` and
+//! `open_existing` have the path; `path::split` is exact.
 //!
 //! `bytes` is how a handle locks, reads and writes, over any `Medium`: bytes under a lock, known where they can be
 //! (`Known`). The lock is had only where the medium grants it, what was read ahead stands at the position (`Reading`),

@@ -144,9 +144,12 @@ fn open_found(
     }
 }
 
-/// Opens the file that has this path, to read and to write, or `None` where nothing has it. A symbolic link is not
-/// followed, and what is no file is not opened.
-pub fn find_file(rt: &impl Files<File = File>, path: &str) -> Result<Option<File>, FileFault>
+/// Opens the file that has this path, to read and to write, and gives by which number the system knows it. `None` where
+/// nothing has the path. A symbolic link is not followed, and what is no file is not opened.
+pub(crate) fn find_numbered(
+    rt: &impl Files<File = File>,
+    path: &str,
+) -> Result<Option<(File, FileNumber)>, FileFault>
     ensures { IfErr result IsOfFile }
 {
     for _ in 0..OPENINGS {
@@ -154,7 +157,7 @@ pub fn find_file(rt: &impl Files<File = File>, path: &str) -> Result<Option<File
             None => return Ok(None),
             Some(number) => {
                 if let Some(file) = open_found(rt, path, number)? {
-                    return Ok(Some(file));
+                    return Ok(Some((file, number)));
                 }
             }
         }
@@ -162,6 +165,18 @@ pub fn find_file(rt: &impl Files<File = File>, path: &str) -> Result<Option<File
     Err(FileFault::Failed {
         kind: ErrorKind::NotFound,
     })
+}
+
+/// Opens the file that has this path, to read and to write, or `None` where nothing has it. A symbolic link is not
+/// followed, and what is no file is not opened.
+pub fn find_file(rt: &impl Files<File = File>, path: &str) -> Result<Option<File>, FileFault>
+    ensures { IfErr result IsOfFile }
+{
+    match find_numbered(rt, path) {
+        Ok(None) => Ok(None),
+        Ok(Some((file, _))) => Ok(Some(file)),
+        Err(fault) => Err(fault),
+    }
 }
 
 /// Synchronizes the folder of the path, so that a name that was made in it survives a power loss.
@@ -261,16 +276,33 @@ fn make<R: Files<File = File> + RandomSource + AllocGlobal>(
     Ok(())
 }
 
+/// The file of a log that was opened.
+#[derive(Drop)]
+pub(crate) struct FoundLog {
+    pub file: File,
+    pub number: FileNumber,
+    pub header: Header,
+}
+
+/// Reads the header of a file that was found.
+fn read_found(file: File, number: FileNumber) -> Result<FoundLog, FileFault> {
+    let header = read_header(&file)?;
+    Ok(FoundLog {
+        file,
+        number,
+        header,
+    })
+}
+
 /// Opens the file of the log, and makes it where nothing has its path.
 pub(crate) fn opened<R: Files<File = File> + RandomSource + AllocGlobal>(
     rt: &R,
     path: &str,
     options: &FileLogOptions,
-) -> Result<(File, Header), FileFault> {
+) -> Result<FoundLog, FileFault> {
     for _ in 0..OPENINGS {
-        if let Some(file) = find_file(rt, path)? {
-            let header = read_header(&file)?;
-            return Ok((file, header));
+        if let Some((file, number)) = find_numbered(rt, path)? {
+            return read_found(file, number);
         }
         if let Err(error) = make(rt, path, options) {
             return Err(system_fault(&error));
@@ -281,18 +313,14 @@ pub(crate) fn opened<R: Files<File = File> + RandomSource + AllocGlobal>(
     })
 }
 
-/// Opens the file of the log that has this path now.
+/// Opens the file of the log that has this path now, or answers this fault where nothing has it.
 pub(crate) fn reopened(
     rt: &impl Files<File = File>,
     path: &str,
-) -> Result<(File, Header), FileFault> {
-    match find_file(rt, path)? {
-        Some(file) => {
-            let header = read_header(&file)?;
-            Ok((file, header))
-        }
-        None => Err(FileFault::Failed {
-            kind: ErrorKind::NotFound,
-        }),
+    missing: FileFault,
+) -> Result<FoundLog, FileFault> {
+    match find_numbered(rt, path)? {
+        Some((file, number)) => read_found(file, number),
+        None => Err(missing),
     }
 }

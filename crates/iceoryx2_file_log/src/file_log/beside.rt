@@ -1,6 +1,7 @@
 //! The file beside the one of a log, to which a compaction goes.
 
 ghost use Rattle.std.specs.Prelude.{◌≡◌, ◌≢◌, ◌≤◌, IfOk, IfErr};
+ghost use Rattle.iceoryx2_file_log.specs.Errors.{IsOfFile};
 ghost use Rattle.iceoryx2_file_log.specs.declared.error.FileFault.TheVariants as fault;
 ghost use Rattle.iceoryx2_file_log.specs.declared.header.TheConstants.{HEADER_LENGTH};
 
@@ -10,7 +11,7 @@ use crate::compaction::{Access, keeps_access};
 use crate::error::{FileFault, system_fault};
 use crate::header::{HEADER_LENGTH, Header, LogName};
 use crate::locked_file::LockedFile;
-use crate::opening::{number_of, reopened};
+use crate::opening::{FileNumber, FoundLog, number_of, reopened};
 use std::fs::{self, File, OpenOptions};
 use std::io::{self, ErrorKind};
 use std::os::unix::fs::{FileExt, MetadataExt, OpenOptionsExt};
@@ -56,14 +57,14 @@ fn fill(file: &File, own: &File, bytes: &[u8]) -> io::Result<()> {
     file.sync_all()
 }
 
-/// Fills the file, locks it, and reads it back.
+/// Fills the file, locks it, and reads it back. Gives its number.
 fn prepare(
     clock: &impl Clock,
     file: &File,
     own: &File,
     bytes: &[u8],
     patience: Duration,
-) -> Result<(), FileFault>
+) -> Result<FileNumber, FileFault>
     ensures { IfErr result (λ why. why ≢ fault.NothingSaved) }
 {
     if let Err(error) = fill(file, own, bytes) {
@@ -71,7 +72,25 @@ fn prepare(
     }
     let mut medium = LockedFile::new(file);
     let file_length = lock(clock, &mut medium, patience)?;
-    read_back(&mut medium, bytes, file_length)
+    read_back(&mut medium, bytes, file_length)?;
+    number_in(file)
+}
+
+/// By which number the system knows the file.
+pub(super) fn number_in(file: &File) -> Result<FileNumber, FileFault>
+    ensures { IfErr result IsOfFile }
+{
+    match file.metadata() {
+        Ok(metadata) => Ok(number_of(&metadata)),
+        Err(error) => Err(system_fault(&error)),
+    }
+}
+
+/// A file that was made beside a log's own one.
+#[derive(Drop)]
+pub(super) struct NewFile {
+    pub file: File,
+    pub number: FileNumber,
 }
 
 /// Makes the file of this path, of these bytes and of the own one's mode, synchronized, locked and read back. Nothing
@@ -82,7 +101,7 @@ pub(super) fn make_beside<R: Files<File = File> + Clock>(
     own: &File,
     bytes: &[u8],
     patience: Duration,
-) -> Result<File, FileFault>
+) -> Result<NewFile, FileFault>
     ensures { IfErr result (λ why. why ≢ fault.NothingSaved) }
 {
     let file = match create(rt, beside) {
@@ -90,7 +109,7 @@ pub(super) fn make_beside<R: Files<File = File> + Clock>(
         Err(error) => return Err(system_fault(&error)),
     };
     match prepare(rt, &file, own, bytes, patience) {
-        Ok(()) => Ok(file),
+        Ok(number) => Ok(NewFile { file, number }),
         Err(why) => {
             let _ = fs::remove_file(rt, beside);
             Err(why)
@@ -103,29 +122,23 @@ pub(super) fn make_beside<R: Files<File = File> + Clock>(
 pub(super) struct Located {
     /// `None` where it is the own one.
     pub file: Option<File>,
+    pub number: FileNumber,
     pub header: Header,
     pub file_length: u64,
-}
-
-fn is_same(one: &File, other: &File) -> io::Result<bool> {
-    Ok(number_of(&one.metadata()?) == number_of(&other.metadata()?))
 }
 
 /// Locks the file, unless it is the own one, which is locked.
 fn locked(
     clock: &impl Clock,
     file: File,
-    own: &File,
+    is_own: bool,
     patience: Duration,
 ) -> Result<Option<File>, FileFault> {
-    match is_same(&file, own) {
-        Err(error) => Err(system_fault(&error)),
-        Ok(true) => Ok(None),
-        Ok(false) => {
-            lock(clock, &mut LockedFile::new(&file), patience)?;
-            Ok(Some(file))
-        }
+    if is_own {
+        return Ok(None);
     }
+    lock(clock, &mut LockedFile::new(&file), patience)?;
+    Ok(Some(file))
 }
 
 /// How long the file is where there is one, and else the own one, at least as long as a header.
@@ -139,24 +152,30 @@ fn length_of(file: &Option<File>, own: &File) -> Result<u64, FileFault>
 }
 
 /// Opens the file that has the path now, of the log of this name, and locks it. `AnotherLog` where it is of another
-/// one.
+/// one, and `Removed` where nothing has the path.
 pub(super) fn locate<R: Files<File = File> + Clock>(
     rt: &R,
     path: &str,
     own: &File,
+    own_number: FileNumber,
     name: LogName,
     patience: Duration,
 ) -> Result<Located, FileFault>
     ensures { IfOk result (λ found. (found.header.name ≡ name) × (HEADER_LENGTH ≤ found.file_length)) }
 {
-    let (file, header) = reopened(rt, path)?;
+    let FoundLog {
+        file,
+        number,
+        header,
+    } = reopened(rt, path, FileFault::Removed)?;
     if header.name != name {
         return Err(FileFault::AnotherLog);
     }
-    let file = locked(rt, file, own, patience)?;
+    let file = locked(rt, file, number == own_number, patience)?;
     let file_length = length_of(&file, own)?;
     Ok(Located {
         file,
+        number,
         header,
         file_length,
     })

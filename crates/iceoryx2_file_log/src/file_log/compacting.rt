@@ -9,14 +9,15 @@ ghost use Rattle.iceoryx2_file_log.specs.Place.{why_not_held};
 ghost use Rattle.iceoryx2_file_log.specs.Moving.{stood, ended, IsErrWith, MayCompact, Stays};
 
 use super::FileLog;
-use super::beside::{Located, locate, make_beside};
-use super::marking::{is_alone, move_log};
+use super::beside::{Located, NewFile, locate, make_beside};
+use super::marking::{Move, is_alone, move_log};
 use crate::compaction::{
     Snapshot, first_tried, is_worth, length_later, length_worth, mark_form, snapshot_of,
 };
 use crate::cursor::Cursor;
 use crate::error::FileFault;
 use crate::header::{HEADER_LENGTH, Header};
+use crate::opening::FileNumber;
 use iceoryx2_log::entry::Entry;
 use iceoryx2_log::log::LogError;
 use std::fs::{self, File};
@@ -27,6 +28,7 @@ use std::time::Clock;
 #[derive(Drop)]
 pub(super) struct NewPlace {
     pub file: File,
+    pub number: FileNumber,
     /// Its path.
     pub beside: String,
     pub snapshot: Snapshot,
@@ -50,8 +52,14 @@ impl<R: Files<File = File> + Clock + AllocGlobal> FileLog<R> {
         if let Some(why) = self.cursor.why_not_held() {
             return Err(why);
         }
-        let patience = self.options.patience;
-        locate(&self.rt, &self.path, &self.file, self.header.name, patience)
+        locate(
+            &self.rt,
+            &self.path,
+            &self.file,
+            self.number,
+            self.header.name,
+            self.options.patience,
+        )
     }
 
     /// Stands at this place of the file of this header and length, which is held.
@@ -64,6 +72,7 @@ impl<R: Files<File = File> + Clock + AllocGlobal> FileLog<R> {
         self.cursor = Cursor::new(self.rt.alloc(), position);
         self.cursor.hold(file_length);
         self.tries_from = first_tried(&header);
+        self.is_away = false;
     }
 
     /// Goes to the file that was located, and gives up the own one, where it is another.
@@ -74,12 +83,14 @@ impl<R: Files<File = File> + Clock + AllocGlobal> FileLog<R> {
     {
         let Located {
             file,
+            number,
             header,
             file_length,
         } = found;
         if let Some(file) = file {
             self.file = file;
         }
+        self.number = number;
         self.stand(HEADER_LENGTH as u64, header, file_length);
     }
 
@@ -113,7 +124,7 @@ impl<R: Files<File = File> + Clock + AllocGlobal> FileLog<R> {
     }
 
     /// Makes a file of these bytes beside the own one, and gives it with its path.
-    fn written(&self, bytes: &[u8]) -> Result<(File, String), FileFault>
+    fn written(&self, bytes: &[u8]) -> Result<(NewFile, String), FileFault>
         ensures { IfErr result (λ why. why ≢ fault.NothingSaved) }
     {
         let Ok(beside) = format!(in self.rt.alloc(); "{}.compacted", self.path) else {
@@ -121,7 +132,7 @@ impl<R: Files<File = File> + Clock + AllocGlobal> FileLog<R> {
         };
         let patience = self.options.patience;
         match make_beside(&self.rt, &beside, &self.file, bytes, patience) {
-            Ok(file) => Ok((file, beside)),
+            Ok(made) => Ok((made, beside)),
             Err(why) => Err(why),
         }
     }
@@ -142,8 +153,9 @@ impl<R: Files<File = File> + Clock + AllocGlobal> FileLog<R> {
             });
         }
         match self.written(&snapshot.bytes) {
-            Ok((file, beside)) => Ok(NewPlace {
+            Ok((NewFile { file, number }, beside)) => Ok(NewPlace {
                 file,
+                number,
                 beside,
                 snapshot,
             }),
@@ -172,19 +184,20 @@ impl<R: Files<File = File> + Clock + AllocGlobal> FileLog<R> {
         }
     }
 
-    /// Gives the path to the file beside, and the mark to the own one. `Moved` where the own one hasn't the path by
-    /// now.
-    fn give_way(&self, beside: &str) -> Result<(), FileFault> {
+    /// Gives the path to the file beside, which has this number, and the mark to the own one. `Moved` where the own one
+    /// hasn't the path by now.
+    fn give_way(&self, beside: &str, new: FileNumber) -> Result<(), FileFault> {
         self.may_be_left()?;
         let mark = mark_form(self.rt.alloc())?;
-        move_log(
-            &self.rt,
-            &self.file,
-            &mark,
-            self.cursor.position(),
-            (beside, &self.path),
-            self.options.synchronizes,
-        )
+        let to = Move {
+            own_file: &self.file,
+            own: self.number,
+            position: self.cursor.position(),
+            beside,
+            new,
+            path: &self.path,
+        };
+        move_log(&self.rt, &to, &mark, self.options.synchronizes)
     }
 
     /// Moves the log to the new file, and stands at its end. Where that is refused the handle stays where it is.
@@ -195,13 +208,15 @@ impl<R: Files<File = File> + Clock + AllocGlobal> FileLog<R> {
     {
         let NewPlace {
             file,
+            number,
             beside,
             snapshot,
         } = place;
-        match self.give_way(&beside) {
+        match self.give_way(&beside, number) {
             Ok(()) => {
                 let file_length = snapshot.bytes.len() as u64;
                 self.file = file;
+                self.number = number;
                 self.stand(file_length, snapshot.header, file_length);
                 Ok(())
             }

@@ -1,6 +1,6 @@
 //! The mark at the end of a file from which a log has moved: cut off where it hasn't, and written.
 
-ghost use Rattle.std.specs.Prelude.{◌≡◌, ◌≤◌, ◌⊎◌, ◌↔◌, None, OnOk, OnErr, IfErr, IsTrue, length};
+ghost use Rattle.std.specs.Prelude.{◌≡◌, ◌≢◌, ◌≤◌, ◌⊎◌, ◌↔◌, None, Some, Ok, Err, OnOk, OnErr, IfErr, IsTrue, length};
 ghost use Rattle.std.specs.IoError.{error_kind};
 ghost use Rattle.iceoryx2_file_log.specs.declared.cursor.State.TheVariants as state;
 ghost use Rattle.iceoryx2_file_log.specs.declared.error.FileFault.TheVariants as fault;
@@ -86,43 +86,89 @@ pub(super) fn cut_mark(
     cut_end(&mut LockedFile::new(file), cursor, synchronizes)
 }
 
-/// Writes the mark at this place, and gives the path to the file beside.
-fn mark_and_rename(
-    rt: &impl Files,
-    file: &File,
-    mark: &[u8],
-    position: u64,
-    names: (&str, &str),
-    synchronizes: bool,
-) -> Result<(), FileFault> {
-    write(&mut LockedFile::new(file), mark, position, synchronizes)?;
-    match fs::rename(rt, names.0, names.1) {
-        Ok(()) => Ok(()),
-        Err(error) => Err(system_fault(&error)),
+/// From which file a log moves, and to which.
+#[derive(Clone, Copy)]
+pub(super) struct Move<'a> {
+    pub own_file: &'a File,
+    pub own: FileNumber,
+    /// Where the own file ends.
+    pub position: u64,
+    /// The path of the new file, beside the own one.
+    pub beside: &'a str,
+    pub new: FileNumber,
+    /// The path of the log.
+    pub path: &'a str,
+}
+
+/// What a rename has done that reports this error, by which file has the path then. It is done where the new one has
+/// it, and isn't where the own one has. `Unsure` where neither does, or that can't be looked up.
+fn renamed_though(
+    error: FileFault,
+    found: Result<Option<FileNumber>, FileFault>,
+    own: FileNumber,
+    new: FileNumber,
+) -> Result<(), FileFault>
+    ensures done { found ≡ Ok (Some new) → OnOk result (Unit {0}) }
+    ensures not_done { found ≡ Ok (Some own) → own ≢ new → result ≡ Err error }
+    ensures unknown { found ≢ Ok (Some own) → found ≢ Ok (Some new) → result ≡ Err fault.Unsure }
+{
+    match found {
+        Err(_) => Err(FileFault::Unsure),
+        Ok(found) => {
+            if has_stayed(new, found) {
+                Ok(())
+            } else if has_stayed(own, found) {
+                Err(error)
+            } else {
+                Err(FileFault::Unsure)
+            }
+        }
     }
 }
 
-/// Moves a log from this file, which ends at this place, to the one beside: the file gets the mark, and the one beside
-/// gets the path, both or none. `Unsure` where a mark could not be taken back, or where the options synchronize and
-/// that, or the path, may be lost with the power.
+/// Writes the mark at the end of the own file, and gives the path to the new one. `Unsure` where nobody knows whether
+/// it has it.
+fn mark_and_rename(
+    rt: &impl Files,
+    to: &Move<'_>,
+    mark: &[u8],
+    synchronizes: bool,
+) -> Result<(), FileFault> {
+    let mut medium = LockedFile::new(to.own_file);
+    write(&mut medium, mark, to.position, synchronizes)?;
+    match fs::rename(rt, to.beside, to.path) {
+        Ok(()) => Ok(()),
+        Err(error) => {
+            let found = looked_up(rt, to.path);
+            renamed_though(system_fault(&error), found, to.own, to.new)
+        }
+    }
+}
+
+/// Moves a log: the own file gets the mark, and the new one gets the path, both or none. `Unsure` where nobody knows
+/// whether the new one has the path, where a mark could not be taken back, or where the options synchronize and that,
+/// or the path, may be lost with the power. As long as nobody knows it the mark stays: whoever finds it and the path
+/// goes to the new file, or cuts the mark off.
 pub(super) fn move_log(
     rt: &impl Files<File = File>,
-    file: &File,
+    to: &Move<'_>,
     mark: &[u8],
-    position: u64,
-    names: (&str, &str),
     synchronizes: bool,
 ) -> Result<(), FileFault>
     requires { IsMark mark.now }
 {
-    if let Err(error) = mark_and_rename(rt, file, mark, position, names, synchronizes) {
-        let mut medium = LockedFile::new(file);
-        return Err(take_back(&mut medium, position, synchronizes, error));
+    match mark_and_rename(rt, to, mark, synchronizes) {
+        Ok(()) => {}
+        Err(FileFault::Unsure) => return Err(FileFault::Unsure),
+        Err(error) => {
+            let mut medium = LockedFile::new(to.own_file);
+            return Err(take_back(&mut medium, to.position, synchronizes, error));
+        }
     }
     if !synchronizes {
         return Ok(());
     }
-    match sync_folder(rt, names.1) {
+    match sync_folder(rt, to.path) {
         Ok(()) => Ok(()),
         Err(_) => Err(FileFault::Unsure),
     }
