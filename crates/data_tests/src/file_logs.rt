@@ -16,7 +16,7 @@ use std::random::RandomSource;
 use std::time::Duration;
 use std::{env, fs};
 
-type Handle<'a> = FileLog<&'a HostRuntime>;
+pub type Handle<'a> = FileLog<&'a HostRuntime>;
 
 /// The mark that a log goes on in another file: an entry of kind 11, of node 0 and of a hash of zeros.
 const MARK: [u8; 45] = [
@@ -373,7 +373,7 @@ fn put_locks(rt: &HostRuntime, path: &str, header: &[u8; 48], locks: usize) -> O
 }
 
 /// The path of a file of the header and the lock so often, where a compaction to one lock makes 101 bytes.
-fn long_file(rt: &HostRuntime, locks: usize) -> Option<String> {
+pub fn long_file(rt: &HostRuntime, locks: usize) -> Option<String> {
     let path = new_path(rt)?;
     put_locks(rt, &path, &HEADER, locks)?;
     Some(path)
@@ -388,13 +388,18 @@ fn lock_list(rt: &HostRuntime, count: usize) -> Option<Vec<Entry>> {
     Some(entries)
 }
 
+/// The path to which the file of a log is renamed.
+pub fn kept(rt: &HostRuntime, path: &str) -> Option<String> {
+    format!(in rt.alloc(); "{path}.kept").ok()
+}
+
 /// The path of the file of a compaction.
 fn beside(rt: &HostRuntime, path: &str) -> Option<String> {
     format!(in rt.alloc(); "{path}.compacted").ok()
 }
 
 /// Takes over all that is there, and gives how many entries are.
-fn take_all(log: &mut Handle<'_>) -> Result<u32, LogError> {
+pub fn take_all(log: &mut Handle<'_>) -> Result<u32, LogError> {
     for count in 0..10_000 {
         if log.next()?.is_none() {
             return Ok(count);
@@ -404,10 +409,15 @@ fn take_all(log: &mut Handle<'_>) -> Result<u32, LogError> {
     Err(LogError::Failed)
 }
 
-/// Holds the log, takes over all that is there, and compacts it to one lock.
-fn compact_held(log: &mut Handle<'_>) -> Result<(), LogError> {
+/// Holds the log, and takes over all that is there.
+pub fn hold_all(log: &mut Handle<'_>) -> Result<u32, LogError> {
     log.hold()?;
-    take_all(log)?;
+    take_all(log)
+}
+
+/// The same, and compacts it to one lock.
+fn compact_held(log: &mut Handle<'_>) -> Result<(), LogError> {
+    hold_all(log)?;
     log.compact(&[lock()])
 }
 
@@ -420,7 +430,7 @@ fn compact_again(log: &mut Handle<'_>) -> Result<(), LogError> {
 
 /// Compacts the log to one lock, and lets go of it. Gives where the handle stands in the new file, and how many entries
 /// it reads there.
-fn compact(log: &mut Handle<'_>) -> Result<(u64, u32), LogError> {
+pub fn compact(log: &mut Handle<'_>) -> Result<(u64, u32), LogError> {
     compact_held(log)?;
     let position = log.position();
     let count = take_all(log)?;
@@ -650,7 +660,7 @@ fn remove(rt: &HostRuntime, path: &str, is_folder: bool) -> Option<()> {
     if is_same { Some(()) } else { None }
 }
 
-/// What a handle answers that compacts after its log was renamed and something else made at the path, by what, and
+/// What a handle answers that compacts after its held log was renamed and something else made at the path, by what, and
 /// whether its file ends without a mark, and nothing is beside it.
 fn compacted_without_path(
     rt: &HostRuntime,
@@ -658,10 +668,11 @@ fn compacted_without_path(
 ) -> Option<(Result<(), LogError>, Option<FileFault>, bool)> {
     let path = long_file(rt, 15)?;
     let mut log = open(rt, &path, Sharing::User).ok()?;
-    let kept = format!(in rt.alloc(); "{path}.kept").ok()?;
+    hold_all(&mut log).ok()?;
+    let kept = kept(rt, &path)?;
     fs::rename(rt, path.as_str(), kept.as_str()).ok()?;
     make(rt, &path, is_folder)?;
-    let answer = compact_held(&mut log);
+    let answer = log.compact(&[lock()]);
     let length = fs::metadata(rt, kept.as_str()).ok()?.len();
     let left = fs::exists(rt, beside(rt, &path)?.as_str()).ok()?;
     remove(rt, &path, is_folder)?;
