@@ -1,6 +1,7 @@
 //! The mark at the end of a file from which a log has moved: cut off where it hasn't, and written.
 
-ghost use Rattle.std.specs.Prelude.{◌≡◌, ◌≢◌, ◌≤◌, ◌⊎◌, ◌↔◌, None, Some, Ok, Err, OnOk, OnErr, IfErr, IsTrue, length};
+ghost use Rattle.std.specs.Prelude.{◌≡◌, ◌≢◌, ◌≤◌, ◌⊎◌, ◌↔◌, None, Some, Ok, Err, IsOk, OnOk, OnErr, IfErr, IsTrue};
+ghost use Rattle.std.specs.Prelude.{length};
 ghost use Rattle.std.specs.IoError.{error_kind};
 ghost use Rattle.iceoryx2_file_log.specs.declared.cursor.State.TheVariants as state;
 ghost use Rattle.iceoryx2_file_log.specs.declared.error.FileFault.TheVariants as fault;
@@ -108,7 +109,7 @@ fn renamed_though(
     own: FileNumber,
     new: FileNumber,
 ) -> Result<(), FileFault>
-    ensures done { found ≡ Ok (Some new) → OnOk result (Unit {0}) }
+    ensures done { found ≡ Ok (Some new) → IsOk result }
     ensures not_done { found ≡ Ok (Some own) → own ≢ new → result ≡ Err error }
     ensures unknown { found ≢ Ok (Some own) → found ≢ Ok (Some new) → result ≡ Err fault.Unsure }
 {
