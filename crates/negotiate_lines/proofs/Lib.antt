@@ -12,3 +12,4 @@ pub mod Judging
 pub mod WrongTerms
 pub mod Judged
 pub mod OneCommand
+pub mod Shown

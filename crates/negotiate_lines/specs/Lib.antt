@@ -5,5 +5,6 @@ pub mod Vocabulary
 pub mod Values
 pub mod Terms
 pub mod Nearest
+pub mod Escapes
 pub mod WrongTexts
 pub mod Wrongs

@@ -14,6 +14,7 @@
 
 mod arguments;
 mod call_term;
+pub mod escape;
 pub mod finding;
 pub mod line;
 mod nearest;

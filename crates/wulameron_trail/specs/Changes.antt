@@ -10,7 +10,7 @@ use Rattle.iceoryx2_world.specs.declared.world.Participant.TheVariants.{Node}
 use Rattle.iceoryx2_world.specs.declared.world.Row.{Row}
 use Rattle.iceoryx2_world.specs.declared.world.Row.TheVariants as row
 use Rattle.iceoryx2_log.specs.declared.entry.Entry.{Entry}
-use Rattle.wulameron_view.specs.Escapes.{escaped}
+use Rattle.negotiate_lines.specs.Escapes.{escaped}
 use Rattle.wulameron_view.specs.ListTexts.{pattern_term}
 use Rattle.wulameron_trail.specs.declared.changes.Published.{Published}
 use Rattle.wulameron_trail.specs.declared.changes.Standing.{Standing}

@@ -5,7 +5,7 @@ use Rattle.iceoryx2_description.specs.Description.{Description}
 use Rattle.iceoryx2_log.specs.declared.entry.Deed.{Deed}
 use Rattle.iceoryx2_log.specs.declared.entry.Deed.TheVariants as deed
 use Rattle.iceoryx2_log.specs.declared.entry.Entry.{Entry}
-use Rattle.wulameron_view.specs.Escapes.{escaped}
+use Rattle.negotiate_lines.specs.Escapes.{escaped}
 use Rattle.wulameron_view.specs.ListTexts.{pattern_term}
 use Rattle.wulameron_trail.specs.Descriptions.{IsRead}
 

@@ -2,15 +2,15 @@
 
 ghost use Rattle.std.specs.Prelude.{◌≡◌, ◌++◌, IfOk, OnOk, Some, codes, decimal, string_bytes};
 ghost use Rattle.hex.specs.Hex.{encode_lower};
-ghost use Rattle.wulameron_view.specs.Escapes.{escaped};
+ghost use Rattle.negotiate_lines.specs.Escapes.{escaped};
 ghost use Rattle.wulameron_trail.specs.EntryTexts.{AddsEntryLine, IsDone, doer as doer_text};
 ghost use Rattle.wulameron_trail.specs.EntryTexts.{published_as as published_text, publishing_text as publishing_line};
 
 use crate::descriptions::read;
 use iceoryx2_description::description::StaticConfig;
 use iceoryx2_log::entry::{Deed, Entry};
+use negotiate_lines::escape::escape;
 use std::alloc::{AllocError, Global};
-use wulameron_view::escape::escape;
 use wulameron_view::list_text::term_of;
 
 /// Writes the line of an entry, which has this number in its log, counted from 0: the number, the node, what it did,

@@ -1,5 +1,4 @@
 pub mod Data
-pub mod Escapes
 pub mod ListTexts
 pub mod Looking
 pub mod Nodes

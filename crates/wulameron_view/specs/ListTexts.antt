@@ -11,7 +11,7 @@ use Rattle.wulameron_view.specs.declared.services.Creation.{Creation}
 use Rattle.wulameron_view.specs.declared.services.Services.{Services}
 use Rattle.wulameron_view.specs.declared.list_text.Column.{Column}
 use Rattle.wulameron_view.specs.declared.list_text.Column.TheVariants as column
-use Rattle.wulameron_view.specs.Escapes.{escaped}
+use Rattle.negotiate_lines.specs.Escapes.{escaped}
 use Rattle.wulameron_view.specs.Tables.{padded, width_of}
 
 -- ---- the cells of a line

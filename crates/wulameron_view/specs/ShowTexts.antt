@@ -17,7 +17,7 @@ use Rattle.wulameron_view.specs.declared.services.Member.{Member}
 use Rattle.wulameron_view.specs.declared.services.Service.{Service}
 use Rattle.wulameron_view.specs.declared.settings.Value.{Value}
 use Rattle.wulameron_view.specs.declared.settings.Value.TheVariants as value
-use Rattle.wulameron_view.specs.Escapes.{escaped}
+use Rattle.negotiate_lines.specs.Escapes.{escaped}
 use Rattle.wulameron_view.specs.ListTexts.{node_or_dash, pattern_term}
 use Rattle.wulameron_view.specs.Settings.{Setting, settings_of}
 use Rattle.wulameron_view.specs.States.{state_of}

@@ -12,7 +12,6 @@
 //! proved.
 #![tactic(auto)]
 
-pub mod escape;
 mod json;
 pub mod list_json;
 pub mod list_text;

@@ -2,16 +2,15 @@
 
 ghost use Rattle.std.specs.Prelude.{◌≡◌, ◌++◌, IfOk, OnOk, codes, decimal, map, string_bytes};
 ghost use Rattle.std.specs.List.{flat_map};
-ghost use Rattle.wulameron_view.specs.Escapes.{escaped};
 ghost use Rattle.wulameron_view.specs.ListTexts.{cell_of, column_cell, creation_cells, header};
 ghost use Rattle.wulameron_view.specs.ListTexts.{line_text, list_cells, list_text as list_text_of, node_or_dash};
 ghost use Rattle.wulameron_view.specs.ListTexts.{pattern_term, service_cells};
 ghost use Rattle.wulameron_view.specs.Tables.{width_of};
 
-use crate::escape::escape;
 use crate::services::{Creation, Service, Services};
 use crate::table::{columns, write_padded};
 use iceoryx2_description::description::MessagingPattern;
+use negotiate_lines::escape::escaped_text;
 use std::alloc::{AllocError, Global};
 use std::marker::Model;
 
@@ -219,15 +218,6 @@ pub fn term_of(pattern: &MessagingPattern) -> &'static str
         MessagingPattern::PublishSubscribe(_) => "pubsub",
         MessagingPattern::RequestResponse(_) => "rr",
     }
-}
-
-/// A text without control characters.
-fn escaped_text(alloc: Global, source: &str) -> Result<String, AllocError>
-    ensures { IfOk result (λ text. string_bytes text ≡ escaped source.now) }
-{
-    let mut text = String::new(alloc);
-    escape(source, &mut text)?;
-    Ok(text)
 }
 
 /// How many of how many.

@@ -9,7 +9,6 @@ ghost use Rattle.wulameron_view.specs.ShowTexts.{member_line, member_with, messa
 ghost use Rattle.wulameron_view.specs.ShowTexts.{room_line, setting_line, show_text as show_text_of, state_text};
 ghost use Rattle.wulameron_view.specs.ShowTexts.{type_lines};
 
-use crate::escape::escape;
 use crate::list_text::term_of;
 use crate::services::{Member, Service};
 use crate::settings::{Setting, of_events, of_publish_subscribe, of_request_response};
@@ -19,6 +18,7 @@ use iceoryx2_description::description::MessagingPattern;
 use iceoryx2_description::request_response;
 use iceoryx2_monitoring::state::{NodeState, NodeStatus};
 use iceoryx2_types::types::{MessageTypeDetails, TypeDetail, TypeVariant};
+use negotiate_lines::escape::escape;
 use std::alloc::AllocError;
 
 /// Writes all that is known of a service: its name, pattern, hash, number and creator; each setting that was agreed,

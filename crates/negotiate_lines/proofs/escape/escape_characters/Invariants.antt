@@ -1,8 +1,8 @@
 use Rattle.std.proofs.Common.{◌≡◌, ◌++◌, IsUtf8, chars, string_bytes}
 use Rattle.std.specs.Str.Iter.{chars_rest}
 use Rattle.std.specs.List.{flat_map}
-use Rattle.wulameron_view.specs.Escapes.{escaped_character}
-use Rattle.wulameron_view.proofs.escape.escape_characters.Given as goal
+use Rattle.negotiate_lines.specs.Escapes.{escaped_character}
+use Rattle.negotiate_lines.proofs.escape.escape_characters.Given as goal
 
 abbrev pub invariant-loop-character : goal.invariant-loop-character
 invariant-loop-character l =

@@ -1,5 +1,5 @@
--- How a text of a service stands in a line: no control character is printed as it is.
-use Rattle.std.specs.Prelude.{ℕ, List, [], ◌∷◌, ◌++◌, codes, ◌||◌, nat_eq, nat_lt, if◌then◌else◌}
+-- How a user's text stands in a line: no control character is printed as it is.
+use Rattle.std.specs.Prelude.{ℕ, List, [], ◌∷◌, ◌++◌, codes, ◌||◌, nat_eq, nat_lt, if◌then◌else◌, length, take}
 use Rattle.std.specs.List.{flat_map}
 use Rattle.std.specs.Char.{encode_utf8}
 use Rattle.std.specs.Str.{chars}
@@ -27,3 +27,12 @@ escaped_character c = written letters c
 
 unfoldable pub escaped : List ℕ → List ℕ
 escaped text = flat_map escaped_character (chars text)
+
+-- The first so many of some characters, and two full stops where there are more.
+abbrev pub shown_front : ℕ → List ℕ → List ℕ
+shown_front most characters =
+    flat_map escaped_character (take most characters) ++ (if nat_lt most (length characters) then codes ".." else [])
+
+-- a word of a line: at most 64 characters of it
+unfoldable pub shown : List ℕ → List ℕ
+shown word = shown_front 64 (chars word)

@@ -1,0 +1,19 @@
+use Rattle.std.proofs.Common.{◌++◌, sym, ap, ◌∙◌, append_assoc, append-nil, string_bytes}
+use Rattle.std.proofs.lemmas.Str.{IsUtf8-past_char, chars_past_char}
+use Rattle.std.proofs.StrCases.{chars_of_empty}
+use Rattle.negotiate_lines.proofs.Shown.{one_more, all_shown}
+use Rattle.negotiate_lines.proofs.escape.escape_front.Goals as goal
+
+pub loop-character-preserved : goal.loop-character-preserved
+loop-character-preserved c =
+    let held = c.loop-character.invariant in
+    let parts = c.in-Some.ensures.steps.0 in (
+      IsUtf8-past_char _ _ c.in-Some.character held.0 parts,
+      rw (c.in_ok-escape_character.ensures, append_assoc)
+          (rw (chars_past_char _ _ c.in-Some.character held.0 parts, one_more _ _ _ c.if-left-eq0.false) at held.1),
+    )
+
+pub returns : goal.returns
+returns c =
+    sym (append-nil _) ∙ ap (λ front. string_bytes c.loop-character.text ++ front) (sym (all_shown c.loop-character.left))
+    ∙ rw (chars_of_empty _ c.in-None.ensures.steps.0.0) at c.loop-character.invariant.1
