@@ -6,7 +6,8 @@ use Rattle.iceoryx2_commands.specs.declared.command.Settings.{Settings}
 use Rattle.iceoryx2_commands.specs.declared.command.Settings.TheVariants as settings
 use Rattle.negotiate_lines.specs.declared.line.Line.{Line}
 use Rattle.negotiate_lines.specs.declared.line.Line.TheVariants as line
-use Rattle.negotiate_lines.specs.Lines.{IsLine, IsCallOf}
+use Rattle.negotiate_lines.specs.Commands.{IsCallOf}
+use Rattle.negotiate_lines.specs.Lines.{IsLine}
 use Rattle.explain_serve.specs.Explained.{call_of, IsCallLine}
 
 -- the first byte of the first term
@@ -32,14 +33,14 @@ begins_otherwise terms others call are other holds =
 
 pub is_call_line : (bytes : List ℕ) (l : Line) (call : Call) → IsLine bytes l → call_of l ≡ Some call → IsCallLine bytes call
 is_call_line bytes line.Blank call is same = absurd cc
-is_call_line bytes line.NotACommand call is same = absurd cc
+is_call_line bytes (line.NotACommand w) call is same = absurd cc
 is_call_line bytes (line.Command (command.Call other)) call is same = let e : other ≡ call = cc in subst (IsCallLine bytes) e is
 is_call_line bytes (line.Command (command.Close slot)) call is same = absurd cc
 is_call_line bytes (line.Command command.List) call is same = absurd cc
 
 pub no_other_call : (bytes : List ℕ) (l : Line) (call : Call) → IsLine bytes l → IsCallLine bytes call → call_of l ≡ None → ⊥
 no_other_call bytes line.Blank call is holds none = begins_otherwise _ [] call is.1 refl holds.1
-no_other_call bytes line.NotACommand call is holds none = (is holds.0).1 (command.Call call) holds.1
+no_other_call bytes (line.NotACommand w) call is holds none = (is.0 holds.0).1 (command.Call call) holds.1
 no_other_call bytes (line.Command (command.Call other)) call is holds none = cc
 no_other_call bytes (line.Command (command.Close slot)) call is holds none = begins_otherwise _ _ call is.1.are refl holds.1
 no_other_call bytes (line.Command command.List) call is holds none = begins_otherwise _ _ call is.1 refl holds.1

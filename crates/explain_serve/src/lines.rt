@@ -70,8 +70,8 @@ fn describe_refusal<S: WorldStorage>(
 }
 
 /// The call of a line.
-fn call_of(line: Line) -> Option<Call>
-    ensures { result ≡ call_of line }
+fn call_of(line: Line<'_>) -> Option<Call>
+    ensures { result ≡ call_of line.entry }
 {
     match line {
         Line::Command(Command::Call(call)) => Some(call),

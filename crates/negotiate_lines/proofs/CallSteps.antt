@@ -3,7 +3,7 @@ use Rattle.std.proofs.Common.{◌≡◌, ℕ, ◌∷◌, List, [], sym, ap, subs
 use Rattle.iceoryx2_attribute.specs.Attributes.{Pair}
 use Rattle.iceoryx2_access.specs.Run.{done, next}
 use Rattle.iceoryx2_access.proofs.Run.{Head, head}
-use Rattle.negotiate_lines.specs.declared.call_term.Admitted.{Admitted}
+use Rattle.negotiate_lines.specs.declared.vocabulary.Admitted.{Admitted}
 use Rattle.negotiate_lines.specs.Vocabulary.{Vocabulary}
 use Rattle.negotiate_lines.specs.CallTerms.{Instruction, setting, now, attribute, required_key, IsInstructionOf, Arguments, Follows, TakesTerm, TakesTerms}
 use Rattle.negotiate_lines.proofs.OneInstruction.{one_instruction}
@@ -40,16 +40,8 @@ module _ {S : Type 0} (v : Vocabulary S) (admitted : Admitted) where
         let first = parted new run in
         subst (λ (p : Arguments S). TakesTerms v admitted p rest new) (one_step old term first.mid mid first.first (instruction, is_such, follows)) first.rest
 
-    pub takes_nothing : ((instruction : Instruction S) → IsInstructionOf v admitted term instruction → ⊥) → (new : Arguments S) → TakesTerms v admitted old terms new → ⊥
-    takes_nothing none new run = let first = parted new run in none first.first.0 first.first.1
-
     pub cannot_be_taken : ((mid : Arguments S) → TakesTerm v admitted old term mid → ⊥) → (new : Arguments S) → TakesTerms v admitted old terms new → ⊥
     cannot_be_taken none new run = let first = parted new run in none first.mid first.first
-
-    pub cannot_be_followed : (instruction : Instruction S) → IsInstructionOf v admitted term instruction → ((mid : Arguments S) → Follows old instruction mid → ⊥) → (new : Arguments S) → TakesTerms v admitted old terms new → ⊥
-    cannot_be_followed instruction is_such none new run =
-        let first = parted new run in
-        none first.mid (subst (λ (i : Instruction S). Follows old i first.mid) (one_instruction v admitted term first.first.0 instruction first.first.1 is_such) first.first.2)
 
   pub all_taken : (old : Arguments S) (terms : List (List ℕ)) → terms ≡ [] → TakesTerms v admitted old terms old
   all_taken old terms none = subst (λ (ws : List (List ℕ)). TakesTerms v admitted old ws old) (sym none) done

@@ -15,8 +15,8 @@ use Rattle.negotiate_lines.specs.Terms.{IsNumber}
 use Rattle.negotiate_lines.specs.Values.{IsNatural}
 use Rattle.negotiate_lines.specs.Vocabulary.{Vocabulary}
 use Rattle.negotiate_lines.specs.CallTerms.{Arguments, TakesTerms, no_arguments}
-use Rattle.negotiate_lines.specs.Lines.{IsNamedCallOf, how_term, admitted_of}
-use Rattle.negotiate_lines.specs.Wrongs.{Begins, Finds, Judges, JudgesFirst, NamesCall}
+use Rattle.negotiate_lines.specs.Commands.{IsNamedCallOf, how_term, admitted_of}
+use Rattle.negotiate_lines.specs.Wrongs.{Begins, Judges, JudgesFirst, NamesCall}
 use Rattle.negotiate_lines.proofs.OneValue.{false-true}
 
 -- ---- what is passed on
@@ -37,12 +37,6 @@ passed_first IsFirst V terms Q W e (Ok b) is judged none also = absurd is
 passed_first {B = B} IsFirst V terms Q W (flaw.Wrong w) (Err f) is judged none also =
     subst (λ (x : Flaw). Judges {A = B} Q W (Err x)) (sym is) (none judged.0, also w judged.1)
 passed_first {B = B} IsFirst V terms Q W flaw.OutOfMemory (Err f) is judged none also = subst (λ (x : Flaw). Judges {A = B} Q W (Err x)) (sym is) tt
-
--- what is found to be wrong where nothing is such
-pub judged_word : {A : Type 0} (P : A → Type 0) (V W : Wrong → Type 0) → ((a : A) → P a → ⊥) → ((w : Wrong) → V w → W w) → (f : Flaw)
-    → Finds V f → Judges P W (Err f)
-judged_word P V W none also (flaw.Wrong w) is = (none, also w is)
-judged_word P V W none also flaw.OutOfMemory is = tt
 
 -- ---- lists
 

@@ -10,6 +10,5 @@ pub mod TermsOf
 pub mod Nearness
 pub mod Judging
 pub mod WrongTerms
-pub mod Judged
 pub mod OneCommand
 pub mod Shown

@@ -11,7 +11,7 @@ use Rattle.iceoryx2_event_builder.specs.declared.event.setting.EventSetter.{Even
 use Rattle.iceoryx2_publish_subscribe_builder.specs.declared.publish_subscribe.setting.PublishSubscribeSetter.{PublishSubscribeSetter}
 use Rattle.iceoryx2_request_response_builder.specs.declared.request_response.setting.RequestResponseSetter.{RequestResponseSetter}
 use Rattle.negotiate_lines.specs.declared.line.NamedCall.{NamedCall}
-use Rattle.negotiate_lines.specs.Lines.{IsCommandOf, IsNamedCallOf, IsCallOf, as_named}
+use Rattle.negotiate_lines.specs.Commands.{IsCommandOf, IsNamedCallOf, IsCallOf, as_named}
 use Rattle.negotiate_lines.specs.SettingTerms.{event_vocabulary, publish_subscribe_vocabulary, request_response_vocabulary}
 use Rattle.negotiate_lines.specs.Terms.{IsNumber}
 use Rattle.negotiate_lines.specs.Wrongs.{Begins, command_words}

@@ -2,7 +2,7 @@
 use Rattle.std.proofs.Common.{◌≡◌, ℕ, List, Option, Some, None, MatchOption, sym, ap, subst, ◌∙◌}
 use Rattle.std.specs.Prelude.{Result, Ok, Err}
 use Rattle.negotiate_lines.specs.declared.call_term.CallTerm.{CallTerm}
-use Rattle.negotiate_lines.specs.declared.call_term.Admitted.{Admitted}
+use Rattle.negotiate_lines.specs.declared.vocabulary.Admitted.{Admitted}
 use Rattle.negotiate_lines.specs.declared.term.TermError.{TermError}
 use Rattle.negotiate_lines.specs.declared.term.TermError.TheVariants as error
 use Rattle.negotiate_lines.specs.Terms.{AreAround}

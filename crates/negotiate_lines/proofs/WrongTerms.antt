@@ -1,5 +1,5 @@
 -- What is wrong with a term.
-use Rattle.std.proofs.Common.{◌≡◌, ℕ, Bool, true, false, List, [], ◌∷◌, Bor, Option, Some, None, MatchOption, map, codes, bytes_eq, refl, sym, ap, subst, ◌∙◌}
+use Rattle.std.proofs.Common.{◌≡◌, ℕ, Bool, true, false, List, [], ◌∷◌, Option, Some, None, MatchOption, codes, bytes_eq, refl, sym, ap, subst, ◌∙◌}
 use Rattle.std.specs.Prelude.{Result, Ok, Err, if◌then◌else◌}
 use Rattle.iceoryx2_commands.specs.declared.command.How.{How}
 use Rattle.iceoryx2_commands.specs.declared.command.How.TheVariants as how
@@ -10,20 +10,14 @@ use Rattle.negotiate_lines.specs.declared.term.TermError.{TermError}
 use Rattle.negotiate_lines.specs.declared.term.TermError.TheVariants as error
 use Rattle.negotiate_lines.specs.declared.wrong.Flaw.{Flaw}
 use Rattle.negotiate_lines.specs.declared.wrong.Flaw.TheVariants as flaw
-use Rattle.negotiate_lines.specs.declared.wrong.Wrong.{Wrong}
 use Rattle.negotiate_lines.specs.declared.vocabulary.Kind.{Kind}
 use Rattle.negotiate_lines.specs.Terms.{AreAround}
 use Rattle.negotiate_lines.specs.Values.{IsClockTerm}
-use Rattle.negotiate_lines.specs.Vocabulary.{Vocabulary, VocabularyRow, Takes, Sets, IsSettingOf, kind_of, kinds_of, row_of, names_of, common_rows}
+use Rattle.negotiate_lines.specs.Vocabulary.{Vocabulary, VocabularyRow, Takes, Sets, IsSettingOf, kind_of, kinds_of, row_of, common_rows}
 use Rattle.negotiate_lines.specs.CallTerms.{Arguments, Instruction, setting, now, attribute, required_key, Follows, IsCommonOf, IsInstructionOf, IsValueOf, TakesTerm, IsRead}
-use Rattle.negotiate_lines.specs.Lines.{admitted_of}
-use Rattle.negotiate_lines.specs.Wrongs.{Finds, Judges, WrongStep, WrongTerm, no_instruction, refused, WrongText, IsNoValue}
+use Rattle.negotiate_lines.specs.Commands.{admitted_of}
+use Rattle.negotiate_lines.specs.Wrongs.{Judges, WrongStep, WrongTerm, refused, IsNoValue}
 use Rattle.negotiate_lines.proofs.OneInstruction.{one_instruction}
-
--- what is found to be wrong is also wrong otherwise
-pub finds_also : (V W : Wrong → Type 0) → ((w : Wrong) → V w → W w) → (f : Flaw) → Finds V f → Finds W f
-finds_also V W also (flaw.Wrong w) is = also w is
-finds_also V W also flaw.OutOfMemory is = tt
 
 module _ {S : Type 0} (v : Vocabulary S) (h : How) (old : Arguments S) (term : List ℕ) where
   -- what a term means is followed, or it is wrong
@@ -36,12 +30,6 @@ module _ {S : Type 0} (v : Vocabulary S) (h : How) (old : Arguments S) (term : L
     refused instruction is_such judged.1,
   )
   follows_judged instruction is_such (Err flaw.OutOfMemory) judged = tt
-
-  -- a term that means nothing is wrong
-  pub none_judged : ((instruction : Instruction S) → IsInstructionOf v (admitted_of v.has_clock h) term instruction → ⊥) → (f : Flaw) → Finds (WrongText v h term) f
-      → Judges (TakesTerm v (admitted_of v.has_clock h) old term) (WrongTerm v h old term) (Err f)
-  none_judged none (flaw.Wrong w) is = ((λ new taken. none taken.0 taken.1), no_instruction none is)
-  none_judged none flaw.OutOfMemory is = tt
 
 -- what is malformed means nothing
 pub malformed : {S : Type 0} (IsSuch : Instruction S → Type 0) (r : Result (CallTerm S) TermError) (e : TermError) → r ≡ Err e → e ≡ error.Malformed
@@ -80,19 +68,6 @@ row_of_kind (row ∷ rows) name kind e = kind_if row.1 (bytes_eq name row.0) _ _
 pub no_row_of_kind : {S : Type 0} (rows : List (VocabularyRow S)) (name : List ℕ) → row_of (kinds_of rows) name ≡ None → row_of rows name ≡ None
 no_row_of_kind [] name e = refl
 no_row_of_kind (row ∷ rows) name e = none_if row.1 (bytes_eq name row.0) _ _ (no_row_of_kind rows name) e
-
-names_of_kinds : {S : Type 0} (rows : List (VocabularyRow S)) → names_of (kinds_of rows) ≡ names_of rows
-names_of_kinds [] = refl
-names_of_kinds (row ∷ rows) = ap (λ (names : List (List ℕ)). row.0 ∷ names) (names_of_kinds rows)
-
-names_of_found : (found : List (Bor (List ℕ) × Kind)) → names_of (map (λ row. (row.0.now, row.1)) found) ≡ map (λ row. row.0.now) found
-names_of_found [] = refl
-names_of_found (row ∷ found) = ap (λ (names : List (List ℕ)). row.0.now ∷ names) (names_of_found found)
-
--- the names that are found are those of the rows
-pub names_found : {S : Type 0} (rows : List (VocabularyRow S)) (found : List (Bor (List ℕ) × Kind)) → map (λ row. (row.0.now, row.1)) found ≡ kinds_of rows
-    → names_of rows ≡ map (λ row. row.0.now) found
-names_found rows found e = sym (names_of_kinds rows) ∙ ap (λ (kinds : List (List ℕ × Kind)). names_of kinds) (sym e) ∙ names_of_found found
 
 -- a value that its setting doesn't take
 pub no_value : {S : Type 0} (v : Vocabulary S) (h : How) (name value : List ℕ) (kind : Kind)

@@ -9,7 +9,7 @@ use Rattle.iceoryx2_description.specs.Span.{Span, zero_span}
 use Rattle.iceoryx2_access.specs.Run.{Run}
 use Rattle.negotiate_lines.specs.declared.call_term.CallTerm.{CallTerm}
 use Rattle.negotiate_lines.specs.declared.call_term.CallTerm.TheVariants as term
-use Rattle.negotiate_lines.specs.declared.call_term.Admitted.{Admitted}
+use Rattle.negotiate_lines.specs.declared.vocabulary.Admitted.{Admitted}
 use Rattle.negotiate_lines.specs.declared.term.TermError.{TermError}
 use Rattle.negotiate_lines.specs.Terms.{AreAround, Reads}
 use Rattle.negotiate_lines.specs.Values.{IsClockTerm}

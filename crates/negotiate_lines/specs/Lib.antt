@@ -1,4 +1,5 @@
 pub mod Lines
+pub mod Commands
 pub mod SettingTerms
 pub mod CallTerms
 pub mod Vocabulary

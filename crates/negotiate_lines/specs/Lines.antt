@@ -1,25 +1,12 @@
 -- What a line is.
-use Rattle.std.specs.Prelude.{ℕ, ◌≡◌, ◌≢◌, ◌^◌, ◌-◌, ◌==◌, Bool, true, false, List, [], ◌∷◌, codes}
-use Rattle.std.specs.Prelude.{length, take, slice_index, if◌then◌else◌}
+use Rattle.std.specs.Prelude.{ℕ, ◌≡◌, ◌≢◌, ◌-◌, ◌==◌, List, [], length, take, slice_index, if◌then◌else◌}
 use Rattle.std.specs.Str.{IsUtf8}
-use Rattle.iceoryx2_description.specs.Names.{IsName}
 use Rattle.iceoryx2_commands.specs.declared.command.Command.{Command}
-use Rattle.iceoryx2_commands.specs.declared.command.Command.TheVariants as command
-use Rattle.iceoryx2_commands.specs.declared.command.Call.{Call}
-use Rattle.iceoryx2_commands.specs.declared.command.How.{How}
-use Rattle.iceoryx2_commands.specs.declared.command.How.TheVariants as how
-use Rattle.iceoryx2_commands.specs.declared.command.Settings.{Settings}
-use Rattle.iceoryx2_commands.specs.declared.command.Settings.TheVariants as settings
-use Rattle.iceoryx2_commands.specs.Commands.{slot_count}
-use Rattle.negotiate_lines.specs.declared.call_term.Admitted.{Admitted}
-use Rattle.negotiate_lines.specs.Terms.{terms_of, IsNumber}
-use Rattle.negotiate_lines.specs.Vocabulary.{Vocabulary}
-use Rattle.negotiate_lines.specs.CallTerms.{no_arguments, TakesTerms}
+use Rattle.negotiate_lines.specs.Terms.{terms_of}
+use Rattle.negotiate_lines.specs.Commands.{IsCommandOf}
+use Rattle.negotiate_lines.specs.Wrongs.{WrongTerms, IsWrong}
 use Rattle.negotiate_lines.specs.declared.line.Line.{Line}
 use Rattle.negotiate_lines.specs.declared.line.Line.TheVariants as line
-use Rattle.negotiate_lines.specs.declared.line.NamedCall.{NamedCall}
-use Rattle.negotiate_lines.specs.SettingTerms.{event_vocabulary, publish_subscribe_vocabulary}
-use Rattle.negotiate_lines.specs.SettingTerms.{request_response_vocabulary}
 
 -- ---- the end of a line
 
@@ -31,72 +18,25 @@ without_last byte line = if slice_index line (length line - 1) == byte then take
 abbrev pub without_end_of : List ℕ → List ℕ
 without_end_of line = without_last 13 (without_last 10 line)
 
--- ---- calls
-
--- the term that means how a service is wanted
-abbrev pub how_term : How → List ℕ
-how_term how.Create = codes "create"
-how_term how.Open = codes "open"
-how_term how.OpenOrCreate = codes "open_or_create"
-
--- which of the terms that every pattern has go with such a call: the time where the pattern's creates are given it
-abbrev pub admitted_of : (has_clock : Bool) → How → Admitted
-admitted_of has_clock how.Create = record { now = has_clock; require_key = false }
-admitted_of has_clock how.Open = record { now = false; require_key = true }
-admitted_of has_clock how.OpenOrCreate = record { now = has_clock; require_key = true }
-
--- The terms are a call in a pattern's vocabulary. Those behind the name make all of it that the first five don't.
-pub record IsNamedCallOf {S : Type 0} (v : Vocabulary S) (terms : List (List ℕ)) (call : NamedCall S)
-    : Type 0 where
-  pub node : List ℕ
-  pub slot : List ℕ
-  pub others : List (List ℕ)
-  pub are : terms ≡ v.pattern ∷ how_term call.how ∷ node ∷ slot ∷ call.name ∷ others
-  pub node_is : IsNumber (2 ^ 64) node call.node
-  pub slot_is : IsNumber slot_count slot call.slot
-  pub name_is : IsName call.name
-  pub taken : TakesTerms v (admitted_of v.has_clock call.how) no_arguments others call.arguments
-
--- a session's call, with its settings as a pattern has them
-abbrev pub as_named : {S : Type 0} → Call → List S → NamedCall S
-as_named call setters = record {
-  how = call.how;
-  node = call.node;
-  slot = call.slot;
-  name = call.name;
-  arguments = record { settings = setters; requirements = call.attributes; now = call.now };
-}
-
--- The terms are a builder call, in the vocabulary of the pattern of its settings.
-abbrev pub IsCallOf : Settings → List (List ℕ) → Call → Type 0
-IsCallOf (settings.Event setters) terms call = IsNamedCallOf event_vocabulary terms (as_named call setters.items)
-IsCallOf (settings.PublishSubscribe setters) terms call =
-    IsNamedCallOf publish_subscribe_vocabulary terms (as_named call setters.items)
-IsCallOf (settings.RequestResponse setters) terms call =
-    IsNamedCallOf request_response_vocabulary terms (as_named call setters.items)
-
 -- ---- lines
 
--- The terms close a slot.
-pub record IsCloseOf (terms : List (List ℕ)) (closed : ℕ) : Type 0 where
-  pub slot : List ℕ
-  pub are : terms ≡ codes "close" ∷ slot ∷ []
-  pub slot_is : IsNumber slot_count slot closed
+-- There are terms, and they are no command.
+abbrev pub AreNoCommand : List (List ℕ) → Type 0
+AreNoCommand terms = (terms ≢ []) × ((c : Command) → IsCommandOf terms c → ⊥)
 
--- The terms are the command.
-abbrev pub IsCommandOf : List (List ℕ) → Command → Type 0
-IsCommandOf terms (command.Call call) = IsCallOf call.settings terms call
-IsCommandOf terms (command.Close slot) = IsCloseOf terms slot
-IsCommandOf terms command.List = terms ≡ codes "list" ∷ []
+-- The bytes are neither blank nor a command. Bytes that are no text are neither.
+abbrev pub IsNoCommand : List ℕ → Type 0
+IsNoCommand bytes = IsUtf8 bytes → AreNoCommand (terms_of bytes)
 
--- The terms are what the line is given as: nothing, a command, or terms that are no command.
+-- The terms are what the line is given as: nothing, a command, or terms that are no command, with what is wrong.
 abbrev pub AreLine : List (List ℕ) → Line → Type 0
 AreLine terms line.Blank = terms ≡ []
 AreLine terms (line.Command c) = IsCommandOf terms c
-AreLine terms line.NotACommand = (terms ≢ []) × ((c : Command) → IsCommandOf terms c → ⊥)
+AreLine terms (line.NotACommand w) = AreNoCommand terms × WrongTerms terms w
 
--- The bytes are what the line is given as. Bytes that are no text are no command.
+-- The bytes are what the line is given as. Where they are neither blank nor a command this is the first thing that is
+-- wrong.
 abbrev pub IsLine : List ℕ → Line → Type 0
 IsLine bytes line.Blank = IsUtf8 bytes × AreLine (terms_of bytes) line.Blank
 IsLine bytes (line.Command c) = IsUtf8 bytes × AreLine (terms_of bytes) (line.Command c)
-IsLine bytes line.NotACommand = IsUtf8 bytes → AreLine (terms_of bytes) line.NotACommand
+IsLine bytes (line.NotACommand w) = IsNoCommand bytes × IsWrong bytes w

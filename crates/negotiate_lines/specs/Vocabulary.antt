@@ -1,6 +1,7 @@
 -- The terms that a pattern has for itself: a table with a row for each setting.
 use Rattle.std.specs.Prelude.{ℕ, ◌≡◌, Bool, true, not, ◌&&◌, List, [], ◌∷◌, ◌++◌, map, Option, Some, None, MatchOption}
 use Rattle.std.specs.Prelude.{if◌then◌else◌, bytes_eq, codes, IsTrue}
+use Rattle.std.specs.Borrow.{Bor}
 use Rattle.std.specs.List.{list_any}
 use Rattle.iceoryx2_types.specs.Types.{Detail}
 use Rattle.iceoryx2_description.specs.Span.{Span}
@@ -46,6 +47,10 @@ VocabularyRow S = List ℕ × Takes S
 -- each name with the kind of value that its setting takes
 abbrev pub kinds_of : {S : Type 0} → List (VocabularyRow S) → List (List ℕ × Kind)
 kinds_of rows = map (λ row. (row.0, kind_of row.1)) rows
+
+-- the same of a table that is found
+abbrev pub table_of : List (Bor (List ℕ) × Kind) → List (List ℕ × Kind)
+table_of settings = map (λ row. (row.0.now, row.1)) settings
 
 -- what stands in the first row of this name
 abbrev pub row_of : {A : Type 0} → List (List ℕ × A) → List ℕ → Option A

@@ -1,10 +1,14 @@
 -- What can be wrong with a line, in words.
-use Rattle.std.specs.Prelude.{List, ℕ, ◌++◌, Option, Some, None, codes}
+use Rattle.std.specs.Prelude.{ℕ, ◌≡◌, List, [], ◌∷◌, ◌++◌, Option, Some, None, codes, cond, map}
 use Rattle.std.specs.Borrow.{Bor}
+use Rattle.negotiate_lines.specs.declared.vocabulary.Admitted.{Admitted}
 use Rattle.negotiate_lines.specs.declared.vocabulary.Kind.{Kind}
 use Rattle.negotiate_lines.specs.declared.vocabulary.Kind.TheVariants as kind
 use Rattle.negotiate_lines.specs.declared.wrong.Wrong.{Wrong}
 use Rattle.negotiate_lines.specs.declared.wrong.Wrong.TheVariants as wrong
+use Rattle.negotiate_lines.specs.Escapes.{shown}
+use Rattle.negotiate_lines.specs.Nearest.{Suggests}
+use Rattle.negotiate_lines.specs.Wrongs.{command_words}
 
 -- what the value of a setting is
 abbrev pub kind_text : Kind → List ℕ
@@ -15,46 +19,68 @@ kind_text kind.Length = codes "<seconds>,<nanoseconds>, or none"
 kind_text kind.Alignment = codes "a power of two below 2^64"
 kind_text kind.Type = codes "<fixed or dynamic>,<name>,<size>,<alignment>"
 
+-- the text of each, without a hint; each word of the line is escaped and cut
+abbrev pub flaw_text : Wrong → List ℕ
+flaw_text wrong.NotUtf8 = codes "not UTF-8"
+flaw_text (wrong.NoSuchCommand term) = shown term.now ++ codes ": no such command"
+flaw_text (wrong.BehindList term) = shown term.now ++ codes ": nothing stands behind list"
+flaw_text (wrong.BehindSlot term) = shown term.now ++ codes ": nothing stands behind the slot of a close"
+flaw_text wrong.NoCall = codes "no call; it is create, open or open_or_create"
+flaw_text (wrong.NoSuchCall term) = shown term.now ++ codes ": no such call"
+flaw_text wrong.NoNode = codes "no node; it is a number below 2^64"
+flaw_text (wrong.NoNodeNumber term) = codes "node " ++ (shown term.now ++ codes ": a number below 2^64")
+flaw_text wrong.NoSlot = codes "no slot; it is a number from 0 to 63"
+flaw_text (wrong.NoSlotNumber term) = codes "slot " ++ (shown term.now ++ codes ": a number from 0 to 63")
+flaw_text (wrong.SlotTooGreat term) = codes "slot " ++ (shown term.now ++ codes ": at most 63")
+flaw_text wrong.NoName = codes "no name"
+flaw_text (wrong.NameLength term) = codes "name " ++ (shown term.now ++ codes ": 1 to 255 bytes")
+flaw_text (wrong.NoEqualsSign term) = shown term.now ++ codes ": no =; it is <setting>=<value>"
+flaw_text (wrong.NoSuchSetting name pattern settings admitted) =
+    shown name.now ++ (codes ": no such setting of " ++ pattern.now)
+flaw_text (wrong.Value name value kind) = shown name.now ++ (codes "="
+    ++ (shown value.now ++ (codes ": " ++ (shown name.now ++ (codes " is " ++ kind_text kind)))))
+flaw_text (wrong.NoTime value) =
+    codes "now=" ++ (shown value.now ++ codes ": now is <seconds>,<nanoseconds>, or fault")
+flaw_text wrong.NowWithOpen = codes "now: not with open"
+flaw_text (wrong.NowOfPattern pattern) = codes "now: not with " ++ pattern.now
+flaw_text wrong.KeyWithCreate = codes "require_key: not with create"
+flaw_text (wrong.NoColon value) = codes "attribute=" ++ (shown value.now ++ codes ": an attribute is <key>:<value>")
+flaw_text (wrong.KeyLength key) = codes "key " ++ (shown key.now ++ codes ": 1 to 64 bytes")
+flaw_text (wrong.ValueLength value) = codes "value " ++ (shown value.now ++ codes ": at most 256 bytes")
+flaw_text (wrong.TooManyPairs key value) =
+    codes "attribute=" ++ (shown key.now ++ (codes ":" ++ (shown value.now ++ codes ": at most 64 different pairs")))
+flaw_text (wrong.TooManyKeys key) = codes "require_key=" ++ (shown key.now ++ codes ": at most 64 different keys")
+
+-- ---- hints
+
+abbrev pub call_words : List (List ℕ)
+call_words = codes "create" ∷ codes "open" ∷ codes "open_or_create" ∷ []
+
+-- the words that could stand before `=`, of a pattern with these settings
+abbrev pub setting_words : List (Bor (List ℕ) × Kind) → Admitted → List (List ℕ)
+setting_words settings admitted =
+    ((map (λ row. row.0.now) settings ++ cond admitted.now (codes "now" ∷ []) []) ++ codes "attribute" ∷ [])
+    ++ cond admitted.require_key (codes "require_key" ∷ []) []
+
 -- the word that may have been meant, or else which words could stand there
-abbrev pub hint_of : (nearest : Option (Bor (List ℕ))) → (words : List ℕ) → List ℕ
-hint_of (Some word) words = codes "; did you mean " ++ word.now ++ codes "?"
-hint_of None words = words
+abbrev pub hint_of : (nearest : Option (List ℕ)) → (told : List ℕ) → List ℕ
+hint_of (Some word) told = codes "; did you mean " ++ (word ++ codes "?")
+hint_of None told = told
 
-abbrev pub hint_text : (nearest : Option (Bor (List ℕ))) → (words : Bor (List ℕ)) → Option (List ℕ)
-hint_text nearest words = Some (hint_of nearest words.now)
+-- The nearest of the words is offered.
+abbrev pub Offers : (term : List ℕ) (words : List (List ℕ)) (told hint : List ℕ) → Type 0
+Offers term words told hint = (nearest : Option (List ℕ)) × Suggests term words nearest × (hint ≡ hint_of nearest told)
 
--- the text of each
-abbrev pub text_of : Wrong → List ℕ
-text_of wrong.NotUtf8 = codes "not UTF-8"
-text_of (wrong.NoSuchCommand term nearest) =
-    term.now ++ (codes ": no such command" ++ hint_of nearest (codes "; it is list, close, event, pubsub or rr"))
-text_of (wrong.BehindList term) = term.now ++ codes ": nothing stands behind list"
-text_of (wrong.BehindSlot term) = term.now ++ codes ": nothing stands behind the slot of a close"
-text_of wrong.NoCall = codes "no call; it is create, open or open_or_create"
-text_of (wrong.NoSuchCall term nearest) =
-    term.now ++ (codes ": no such call" ++ hint_of nearest (codes "; it is create, open or open_or_create"))
-text_of wrong.NoNode = codes "no node; it is a number below 2^64"
-text_of (wrong.NoNodeNumber term) = codes "node " ++ term.now ++ codes ": a number below 2^64"
-text_of wrong.NoSlot = codes "no slot; it is a number from 0 to 63"
-text_of (wrong.NoSlotNumber term) = codes "slot " ++ term.now ++ codes ": a number from 0 to 63"
-text_of (wrong.SlotTooGreat term) = codes "slot " ++ term.now ++ codes ": at most 63"
-text_of wrong.NoName = codes "no name"
-text_of (wrong.NameLength term) = codes "name " ++ term.now ++ codes ": 1 to 255 bytes"
-text_of (wrong.NoEqualsSign term) = term.now ++ codes ": no =; it is <setting>=<value>"
-text_of (wrong.NoSuchSetting name pattern nearest) =
-    name.now ++ (codes ": no such setting of " ++ (pattern.now ++ hint_of nearest (codes "")))
-text_of (wrong.Value name value kind) =
-    name.now ++ (codes "=" ++ (value.now ++ (codes ": " ++ (name.now ++ (codes " is " ++ kind_text kind)))))
-text_of (wrong.NoTime value) = codes "now=" ++ value.now ++ codes ": now is <seconds>,<nanoseconds>, or fault"
-text_of wrong.NowWithOpen = codes "now: not with open"
-text_of (wrong.NowOfPattern pattern) = codes "now: not with " ++ pattern.now
-text_of wrong.KeyWithCreate = codes "require_key: not with create"
-text_of (wrong.NoColon value) = codes "attribute=" ++ value.now ++ codes ": an attribute is <key>:<value>"
-text_of (wrong.KeyLength key) = codes "key " ++ key.now ++ codes ": 1 to 64 bytes"
-text_of (wrong.ValueLength value) = codes "value " ++ value.now ++ codes ": at most 256 bytes"
-text_of (wrong.TooManyPairs key value) =
-    codes "attribute=" ++ (key.now ++ (codes ":" ++ (value.now ++ codes ": at most 64 different pairs")))
-text_of (wrong.TooManyKeys key) = codes "require_key=" ++ key.now ++ codes ": at most 64 different keys"
+-- what is hinted at
+abbrev pub IsHint : Wrong → List ℕ → Type 0
+IsHint (wrong.NoSuchCommand term) hint =
+    Offers term.now command_words (codes "; it is list, close, event, pubsub or rr") hint
+IsHint (wrong.NoSuchCall term) hint =
+    Offers term.now call_words (codes "; it is create, open or open_or_create") hint
+IsHint (wrong.NoSuchSetting name pattern settings admitted) hint =
+    Offers name.now (setting_words settings.now admitted) [] hint
+IsHint _ hint = hint ≡ []
 
-abbrev pub wrong_text : Wrong → Option (List ℕ)
-wrong_text w = Some (text_of w)
+-- The text is what is wrong, and a hint behind it.
+abbrev pub IsWrongText : Wrong → List ℕ → Type 0
+IsWrongText w text = (hint : List ℕ) × IsHint w hint × (text ≡ flaw_text w ++ hint)

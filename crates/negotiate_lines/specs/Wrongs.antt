@@ -1,6 +1,6 @@
 -- What is wrong with a line: the first thing, from left to right.
-use Rattle.std.specs.Prelude.{ℕ, ◌≡◌, ◌≢◌, ◌⊎◌, ◌≤◌, ◌++◌, true, false, List, [], ◌∷◌, length, Option, None}
-use Rattle.std.specs.Prelude.{Some, Result, Ok, Err, codes, cond}
+use Rattle.std.specs.Prelude.{ℕ, ◌≡◌, ◌≢◌, ◌≤◌, ◌++◌, true, false, List, [], ◌∷◌, length, None, Some}
+use Rattle.std.specs.Prelude.{Result, Ok, Err, codes}
 use Rattle.std.specs.Borrow.{Bor}
 use Rattle.std.specs.Str.{IsUtf8}
 use Rattle.iceoryx2_access.specs.Run.{Each}
@@ -11,32 +11,25 @@ use Rattle.iceoryx2_attribute.specs.declared.attribute.TheConstants.{MAX_ATTRIBU
 use Rattle.iceoryx2_description.specs.Names.{IsName}
 use Rattle.iceoryx2_description.specs.Span.{Span}
 use Rattle.iceoryx2_description.specs.declared.time.ClockFault.{ClockFault}
-use Rattle.iceoryx2_commands.specs.declared.command.Command.{Command}
 use Rattle.iceoryx2_commands.specs.declared.command.How.{How}
 use Rattle.iceoryx2_commands.specs.declared.command.How.TheVariants as how
 use Rattle.iceoryx2_commands.specs.Commands.{slot_count}
+use Rattle.negotiate_lines.specs.declared.vocabulary.Admitted.{Admitted}
 use Rattle.negotiate_lines.specs.declared.vocabulary.Kind.{Kind}
 use Rattle.negotiate_lines.specs.declared.wrong.Flaw.{Flaw}
 use Rattle.negotiate_lines.specs.declared.wrong.Flaw.TheVariants as flaw
 use Rattle.negotiate_lines.specs.declared.wrong.Wrong.{Wrong}
 use Rattle.negotiate_lines.specs.declared.wrong.Wrong.TheVariants as wrong
-use Rattle.negotiate_lines.specs.Nearest.{Suggests, now_of}
 use Rattle.negotiate_lines.specs.SettingTerms.{event_vocabulary, publish_subscribe_vocabulary}
 use Rattle.negotiate_lines.specs.SettingTerms.{request_response_vocabulary}
 use Rattle.negotiate_lines.specs.Terms.{AreAround, IsNumber, terms_of}
 use Rattle.negotiate_lines.specs.Values.{IsClockTerm, IsNatural}
-use Rattle.negotiate_lines.specs.Vocabulary.{Vocabulary, Takes, Sets, kind_of, row_of, common_rows, names_of}
-use Rattle.negotiate_lines.specs.CallTerms.{Arguments, Instruction, attribute, required_key, IsInstructionOf, TakesTerms, no_arguments}
-use Rattle.negotiate_lines.specs.Lines.{IsLine, AreLine, IsCommandOf, admitted_of, how_term}
-use Rattle.negotiate_lines.specs.declared.line.Line.TheVariants as line
+use Rattle.negotiate_lines.specs.Vocabulary.{Vocabulary, Takes, Sets, kind_of, kinds_of, row_of, common_rows, table_of}
+use Rattle.negotiate_lines.specs.CallTerms.{Arguments, Instruction, attribute, required_key, IsInstructionOf}
+use Rattle.negotiate_lines.specs.CallTerms.{TakesTerms, no_arguments}
+use Rattle.negotiate_lines.specs.Commands.{admitted_of, how_term}
 
 -- ---- a term behind the name
-
--- the words that could stand before `=`, with such a call
-abbrev pub setting_words : {S : Type 0} → Vocabulary S → How → List (List ℕ)
-setting_words v h =
-    ((names_of v.rows ++ cond (admitted_of v.has_clock h).now (codes "now" ∷ []) []) ++ codes "attribute" ∷ [])
-    ++ cond (admitted_of v.has_clock h).require_key (codes "require_key" ∷ []) []
 
 -- The setting of this name takes values of this kind, and this is none that it takes.
 pub record IsNoValue {S : Type 0} (v : Vocabulary S) (name value : List ℕ) (kind : Kind) : Type 0 where
@@ -45,12 +38,15 @@ pub record IsNoValue {S : Type 0} (v : Vocabulary S) (name value : List ℕ) (ki
   pub kind_is : kind ≡ kind_of takes
   pub none : (s : S) → Sets takes value s → ⊥
 
--- No setting of the pattern has this name, and no term that every pattern has.
-pub record IsNoSetting {S : Type 0} (v : Vocabulary S) (h : How) (name : List ℕ) (nearest : Option (List ℕ))
+-- No setting of the pattern has this name, and no term that every pattern has. These could stand there.
+pub record IsNoSetting {S : Type 0} (v : Vocabulary S) (h : How) (name pattern : List ℕ)
+    (settings : List (Bor (List ℕ) × Kind)) (admitted : Admitted)
     : Type 0 where
   pub common : row_of common_rows name ≡ None
   pub row : row_of v.rows name ≡ None
-  pub suggested : Suggests name (setting_words v h) nearest
+  pub pattern_is : pattern ≡ v.pattern
+  pub settings_are : table_of settings ≡ kinds_of v.rows
+  pub admitted_are : admitted ≡ admitted_of v.has_clock h
 
 -- what is wrong with a value behind a name
 abbrev pub WrongValue : {S : Type 0} → Vocabulary S → How → (name value : List ℕ) → Wrong → Type 0
@@ -63,8 +59,8 @@ WrongValue v h name value wrong.NowWithOpen = (name ≡ codes "now") × (h ≡ h
 WrongValue v h name value (wrong.NowOfPattern t) =
     (name ≡ codes "now") × (v.has_clock ≡ false) × (t.now ≡ v.pattern)
 WrongValue v h name value (wrong.Value n t kind) = (n.now ≡ name) × (t.now ≡ value) × IsNoValue v name value kind
-WrongValue v h name value (wrong.NoSuchSetting n t nearest) =
-    (n.now ≡ name) × (t.now ≡ v.pattern) × IsNoSetting v h name (now_of nearest)
+WrongValue v h name value (wrong.NoSuchSetting n pattern settings admitted) =
+    (n.now ≡ name) × IsNoSetting v h name pattern.now settings.now admitted
 WrongValue v h name value _ = ⊥
 
 -- what is wrong with an instruction that can't be followed
@@ -109,14 +105,11 @@ pub record WrongArguments {S : Type 0} (v : Vocabulary S) (h : How) (terms : Lis
 
 -- ---- a call
 
-abbrev pub call_words : List (List ℕ)
-call_words = codes "create" ∷ codes "open" ∷ codes "open_or_create" ∷ []
-
 -- what is wrong with the first of these terms: there is none, or it is no call
 abbrev pub WrongHow : List (List ℕ) → Wrong → Type 0
 WrongHow terms wrong.NoCall = terms ≡ []
-WrongHow terms (wrong.NoSuchCall t nearest) = (rest : List (List ℕ)) × (terms ≡ t.now ∷ rest)
-    × ((h : How) → t.now ≡ how_term h → ⊥) × Suggests t.now call_words (now_of nearest)
+WrongHow terms (wrong.NoSuchCall t) =
+    (rest : List (List ℕ)) × (terms ≡ t.now ∷ rest) × ((h : How) → t.now ≡ how_term h → ⊥)
 WrongHow terms _ = ⊥
 
 -- or it is no number of a node
@@ -159,15 +152,10 @@ pub data WrongCall {S : Type 0} (v : Vocabulary S) (terms : List (List ℕ)) (w 
 abbrev pub command_words : List (List ℕ)
 command_words = codes "list" ∷ codes "close" ∷ codes "event" ∷ codes "pubsub" ∷ codes "rr" ∷ []
 
--- No command begins with the term. The nearest word by which one does is found.
-abbrev pub IsNoCommandWord : (term : List ℕ) → Wrong → Type 0
-IsNoCommandWord term (wrong.NoSuchCommand t nearest) = (t.now ≡ term) × Suggests term command_words (now_of nearest)
-IsNoCommandWord term _ = ⊥
-
 -- what is wrong with the terms of a line
 pub data WrongTerms (terms : List (List ℕ)) : Wrong → Type 0 where
-  no_command : {w : Wrong} (term : List ℕ) (rest : List (List ℕ)) → terms ≡ term ∷ rest
-      → Each (λ word. term ≢ word) command_words → IsNoCommandWord term w → WrongTerms terms w
+  no_command : {t : Bor (List ℕ)} (rest : List (List ℕ)) → terms ≡ t.now ∷ rest
+      → Each (λ word. t.now ≢ word) command_words → WrongTerms terms (wrong.NoSuchCommand t)
   behind_list : {t : Bor (List ℕ)} (rest : List (List ℕ)) → terms ≡ codes "list" ∷ t.now ∷ rest
       → WrongTerms terms (wrong.BehindList t)
   at_slot : {w : Wrong} (rest : List (List ℕ)) → terms ≡ codes "close" ∷ rest → WrongSlot rest w
@@ -188,16 +176,6 @@ pub data IsWrong (bytes : List ℕ) : Wrong → Type 0 where
   in_terms : {w : Wrong} → IsUtf8 bytes → WrongTerms (terms_of bytes) w → IsWrong bytes w
 
 -- ---- what is found
-
--- Nothing is wrong with a line that is blank or a command. Any other line is neither, and what is found is wrong.
-abbrev pub IsJudged : (bytes : List ℕ) → Option Wrong → Type 0
-IsJudged bytes None = IsLine bytes line.Blank ⊎ ((c : Command) × IsLine bytes (line.Command c))
-IsJudged bytes (Some w) = IsLine bytes line.NotACommand × IsWrong bytes w
-
--- the same of the terms
-abbrev pub AreJudged : (terms : List (List ℕ)) → Option Wrong → Type 0
-AreJudged terms None = (terms ≡ []) ⊎ ((c : Command) × IsCommandOf terms c)
-AreJudged terms (Some w) = AreLine terms line.NotACommand × WrongTerms terms w
 
 -- What is found is such. Else nothing is such, and this is what is wrong. Memory may run out.
 abbrev pub Judges : {A : Type 0} → (A → Type 0) → (Wrong → Type 0) → Result A Flaw → Type 0
@@ -221,8 +199,3 @@ JudgesFirst IsFirst Wrongs terms (Err flaw.OutOfMemory) = Unit {0}
 -- a term is the name of a call
 abbrev pub NamesCall : List ℕ → How → Type 0
 NamesCall term h = term ≡ how_term h
-
--- what is found to be wrong is so
-abbrev pub Finds : (Wrong → Type 0) → Flaw → Type 0
-Finds Wrongs (flaw.Wrong w) = Wrongs w
-Finds Wrongs flaw.OutOfMemory = Unit {0}

@@ -1,17 +1,21 @@
 //! What a call has beside its place and its name.
 
 ghost use Rattle.std.specs.Prelude.{◌≡◌};
-ghost use Rattle.negotiate_lines.specs.Terms.{Reads, terms_of};
-ghost use Rattle.negotiate_lines.specs.CallTerms.{Follows, Arguments, TakesTerms, attribute};
+ghost use Rattle.negotiate_lines.specs.Terms.{terms_of};
+ghost use Rattle.negotiate_lines.specs.Commands.{admitted_of};
+ghost use Rattle.negotiate_lines.specs.CallTerms.{Follows, Arguments, TakesTerm, TakesTerms, attribute};
 ghost use Rattle.negotiate_lines.specs.CallTerms.{in_place, instruction_of, no_arguments, required_key};
-ghost use Rattle.negotiate_lines.specs.Wrongs.{Judges, WrongStep};
+ghost use Rattle.negotiate_lines.specs.Wrongs.{Judges, WrongArguments, WrongStep, WrongTerm};
 
-use crate::call_term::{Admitted, CallTerm, call_term};
+use crate::call_term::{CallTerm, call_term};
+use crate::line::admitted;
 use crate::term::{TermError, next_term};
 use crate::vocabulary::HasVocabulary;
 use crate::wrong::{Flaw, Wrong};
+use crate::wrong_terms::wrong_term;
 use iceoryx2_attribute::attribute::AttributeError::{self, KeyLength, TooMany, ValueLength};
 use iceoryx2_attribute::attribute::AttributeVerifier;
+use iceoryx2_commands::command::How;
 use iceoryx2_description::time::{ClockFault, Time};
 use std::alloc::Global;
 use std::marker::Model;
@@ -62,20 +66,9 @@ impl<S: Drop> CallArguments<S> {
         (settings, attributes, now)
     }
 
-    /// What they are after what a term means. A pair or a key isn't taken where its length is out of
-    /// range, and where it is one past 64.
-    fn follow(&mut self, instruction: CallTerm<S>) -> Result<(), TermError>
-        ensures { Reads (Follows self.old (instruction_of instruction.entry)) (in_place result self.new) }
-    {
-        match self.judge(instruction) {
-            Ok(()) => Ok(()),
-            Err(Flaw::Wrong(_)) => Err(TermError::Malformed),
-            Err(Flaw::OutOfMemory) => Err(TermError::OutOfMemory),
-        }
-    }
-
-    /// The same, or what is wrong where that can't be followed.
-    pub(crate) fn judge<'a>(&mut self, instruction: CallTerm<'a, S>) -> Result<(), Flaw<'a>>
+    /// What they are after what a term means, or what is wrong where that can't be followed: a pair or a key isn't
+    /// taken where its length is out of range, and where it is one past 64.
+    fn judge<'a>(&mut self, instruction: CallTerm<'a, S>) -> Result<(), Flaw<'a>>
         ensures { Judges (Follows self.old (instruction_of instruction.entry))
             (WrongStep self.old (instruction_of instruction.entry)) (in_place result self.new) }
     {
@@ -119,21 +112,38 @@ impl<S: Drop> CallArguments<S> {
     }
 }
 
-/// Reads the terms of a text, one by one and in order, up to the first that means nothing, or what
-/// can't be followed. No term is kept: memory is taken for the settings, the pairs and the keys
-/// alone.
-pub fn call_arguments<V: HasVocabulary>(
+/// Reads the terms of a text, one by one and in order, up to the first that is wrong. No term is kept: memory is taken
+/// for the settings, the pairs and the keys alone.
+pub(crate) fn judge_arguments<'a, V: HasVocabulary>(
     alloc: Global,
-    admitted: Admitted,
-    text: &str,
-) -> Result<CallArguments<V::Setter>, TermError>
-    ensures { Reads (TakesTerms V.vocabulary admitted no_arguments (terms_of text.now)) result }
+    how: How,
+    text: &'a str,
+) -> Result<CallArguments<V::Setter>, Flaw<'a>>
+    ensures { Judges (TakesTerms V.vocabulary (admitted_of V.vocabulary.has_clock how) no_arguments (terms_of text.now))
+        (WrongArguments V.vocabulary how (terms_of text.now)) result }
 {
     let mut arguments = CallArguments::new(alloc);
     let mut rest = text;
     while let Some((term, after)) = next_term(rest) {
-        arguments.follow(call_term::<V>(alloc, admitted, term)?)?;
+        judge_term::<V>(alloc, how, &mut arguments, term)?;
         rest = after;
     }
     Ok(arguments)
+}
+
+/// What the arguments are after what a term means, or what is wrong with it.
+fn judge_term<'a, V: HasVocabulary>(
+    alloc: Global,
+    how: How,
+    arguments: &mut CallArguments<V::Setter>,
+    term: &'a str,
+) -> Result<(), Flaw<'a>>
+    ensures { Judges (TakesTerm V.vocabulary (admitted_of V.vocabulary.has_clock how) arguments.old term.now)
+        (WrongTerm V.vocabulary how arguments.old term.now) (in_place result arguments.new) }
+{
+    match call_term::<V>(alloc, admitted::<V>(how), term) {
+        Ok(instruction) => arguments.judge(instruction),
+        Err(TermError::OutOfMemory) => Err(Flaw::OutOfMemory),
+        Err(TermError::Malformed) => Err(Flaw::Wrong(wrong_term::<V>(how, term))),
+    }
 }

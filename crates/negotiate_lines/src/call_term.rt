@@ -4,18 +4,9 @@ ghost use Rattle.negotiate_lines.specs.CallTerms.{IsRead, IsValueOf, IsInstructi
 
 use crate::term::{TermError, around};
 use crate::value::time_or_fault;
-use crate::vocabulary::HasVocabulary;
+use crate::vocabulary::{Admitted, HasVocabulary};
 use iceoryx2_description::time::{ClockFault, Time};
 use std::alloc::Global;
-
-/// Which of the terms that every pattern has go with a call.
-#[derive(Clone, Copy)]
-pub struct Admitted {
-    /// What the clock gives.
-    pub now: bool,
-    /// A key that is required.
-    pub require_key: bool,
-}
 
 /// What a term means.
 #[derive(Drop)]

@@ -4,28 +4,31 @@ ghost use Rattle.std.specs.Prelude.{◌≡◌, ◌∷◌, IfOk, codes};
 ghost use Rattle.iceoryx2_commands.specs.declared.command.Call.{Call};
 ghost use Rattle.iceoryx2_commands.specs.declared.command.Command.TheVariants as command;
 ghost use Rattle.iceoryx2_commands.specs.Commands.{slot_count};
-ghost use Rattle.negotiate_lines.specs.Terms.{Finds, IsNumber, Reads, terms_of};
-ghost use Rattle.negotiate_lines.specs.Lines.{AreLine, IsLine, IsCommandOf, IsNamedCallOf};
-ghost use Rattle.negotiate_lines.specs.Lines.{admitted_of, as_named, how_term, without_end_of};
+ghost use Rattle.negotiate_lines.specs.Terms.{Finds, IsNumber, terms_of};
+ghost use Rattle.negotiate_lines.specs.Values.{IsNatural};
+ghost use Rattle.negotiate_lines.specs.Commands.{IsCommandOf, IsNamedCallOf, admitted_of, as_named, how_term};
+ghost use Rattle.negotiate_lines.specs.Lines.{AreLine, IsLine, without_end_of};
+ghost use Rattle.negotiate_lines.specs.Wrongs.{Judges, JudgesFirst, NamesCall, WrongCall, WrongHow, WrongNode};
+ghost use Rattle.negotiate_lines.specs.Wrongs.{WrongSlot, WrongTerms};
 
-use crate::arguments::{CallArguments, call_arguments};
-use crate::call_term::Admitted;
+use crate::arguments::{CallArguments, judge_arguments};
 use crate::setting_terms::{EventTerms, PublishSubscribeTerms, RequestResponseTerms};
-use crate::term::{TermError, next_term, number, number_below};
-use crate::vocabulary::HasVocabulary;
+use crate::term::{TermError, next_term, number};
+use crate::vocabulary::{Admitted, HasVocabulary};
+use crate::wrong::{Flaw, Wrong};
 use iceoryx2_commands::command::{Call, Command, How, SLOTS, Settings};
 use iceoryx2_description::description::{ServiceName, ServiceNameError};
 use std::alloc::{AllocError, Global};
 
 /// What a line is.
 #[derive(Debug, Drop)]
-pub enum Line {
+pub enum Line<'a> {
     /// It has no term.
     Blank,
     /// It is a command.
     Command(Command),
-    /// It has terms, and they are no command.
-    NotACommand,
+    /// It is neither, and this is the first thing that is wrong, from left to right.
+    NotACommand(Wrong<'a>),
 }
 
 /// The line without its end: one `\n`, and one `\r` before that.
@@ -45,102 +48,106 @@ pub fn without_end(line: &[u8]) -> &[u8]
 /// Reads a line, without its end. Its terms are separated by one or more spaces.
 ///
 /// Its terms are read one by one, and none is kept. Memory is taken for a service's name and for
-/// what the terms behind it mean; where there is none, nothing is read.
-pub fn parse(alloc: Global, line: &[u8]) -> Result<Line, AllocError>
+/// what the terms behind it mean. `AllocError` where there is none.
+pub fn parse<'a>(alloc: Global, line: &'a [u8]) -> Result<Line<'a>, AllocError>
     ensures { IfOk result (IsLine line.now) }
 {
     match std::str::from_utf8(line) {
         Ok(text) => parse_text(alloc, text),
-        Err(_) => Ok(Line::NotACommand),
+        Err(_) => Ok(Line::NotACommand(Wrong::NotUtf8)),
     }
 }
 
 /// What a text is.
-fn parse_text(alloc: Global, text: &str) -> Result<Line, AllocError>
+fn parse_text<'a>(alloc: Global, text: &'a str) -> Result<Line<'a>, AllocError>
     ensures { IfOk result (AreLine (terms_of text.now)) }
 {
     let Some((first, others)) = next_term(text) else {
         return Ok(Line::Blank);
     };
-    match parse_terms(alloc, first, others) {
+    match judge(alloc, first, others) {
         Ok(command) => Ok(Line::Command(command)),
-        Err(TermError::Malformed) => Ok(Line::NotACommand),
-        Err(TermError::OutOfMemory) => Err(AllocError),
+        Err(Flaw::Wrong(wrong)) => Ok(Line::NotACommand(wrong)),
+        Err(Flaw::OutOfMemory) => Err(AllocError),
     }
 }
 
-/// What a term and those behind it mean.
-fn parse_terms(alloc: Global, first: &str, others: &str) -> Result<Command, TermError>
-    ensures { Reads (IsCommandOf (first.now ∷ terms_of others.now)) result }
+/// The command that a term and those behind it are, or what is wrong.
+fn judge<'a>(alloc: Global, first: &'a str, others: &'a str) -> Result<Command, Flaw<'a>>
+    ensures { Judges (IsCommandOf (first.now ∷ terms_of others.now))
+        (WrongTerms (first.now ∷ terms_of others.now)) result }
 {
     match first {
-        "list" => list(others),
-        "close" => close(others),
-        "event" => event(alloc, others),
-        "pubsub" => publish_subscribe(alloc, others),
-        "rr" => request_response(alloc, others),
-        _ => Err(TermError::Malformed),
+        "list" => judge_list(others),
+        "close" => judge_close(others),
+        "event" => Ok(judge_call::<EventTerms>(alloc, others)?.into_command(Settings::Event)),
+        "pubsub" => {
+            let call = judge_call::<PublishSubscribeTerms>(alloc, others)?;
+            Ok(call.into_command(Settings::PublishSubscribe))
+        }
+        "rr" => {
+            let call = judge_call::<RequestResponseTerms>(alloc, others)?;
+            Ok(call.into_command(Settings::RequestResponse))
+        }
+        _ => Err(Flaw::Wrong(Wrong::NoSuchCommand(first))),
     }
 }
 
 /// What the term `list` means before others.
-fn list(others: &str) -> Result<Command, TermError>
-    ensures { Finds (IsCommandOf (codes "list" ∷ terms_of others.now)) result }
+fn judge_list<'a>(others: &'a str) -> Result<Command, Flaw<'a>>
+    ensures { Judges (IsCommandOf (codes "list" ∷ terms_of others.now))
+        (WrongTerms (codes "list" ∷ terms_of others.now)) result }
 {
     match next_term(others) {
         None => Ok(Command::List),
-        Some(_) => Err(TermError::Malformed),
+        Some((term, _)) => Err(Flaw::Wrong(Wrong::BehindList(term))),
     }
 }
 
 /// What the term `close` means before others.
-fn close(others: &str) -> Result<Command, TermError>
-    ensures { Finds (IsCommandOf (codes "close" ∷ terms_of others.now)) result }
+fn judge_close<'a>(others: &'a str) -> Result<Command, Flaw<'a>>
+    ensures { Judges (IsCommandOf (codes "close" ∷ terms_of others.now))
+        (WrongTerms (codes "close" ∷ terms_of others.now)) result }
 {
-    let Some((slot, others)) = next_term(others) else {
-        return Err(TermError::Malformed);
-    };
+    let (slot, others) = slot_in(others)?;
     match next_term(others) {
-        None => Ok(Command::Close {
-            slot: slot_number(slot)?,
-        }),
-        Some(_) => Err(TermError::Malformed),
+        None => Ok(Command::Close { slot }),
+        Some((term, _)) => Err(Flaw::Wrong(Wrong::BehindSlot(term))),
     }
 }
 
-/// What the term `event` means before others.
-fn event(alloc: Global, others: &str) -> Result<Command, TermError>
-    ensures { Reads (IsCommandOf (codes "event" ∷ terms_of others.now)) result }
+/// The slot by which a text begins, and the text behind it.
+fn slot_in<'a>(text: &'a str) -> Result<(usize, &'a str), Flaw<'a>>
+    ensures { JudgesFirst (IsNumber slot_count) WrongSlot (terms_of text.now) result }
 {
-    let call = parse_call::<EventTerms>(alloc, others)?;
-    Ok(call.into_command(Settings::Event))
+    let Some((term, others)) = next_term(text) else {
+        return Err(Flaw::Wrong(Wrong::NoSlot));
+    };
+    match number(term) {
+        Err(_) => Err(Flaw::Wrong(Wrong::NoSlotNumber(term))),
+        Ok(number) => {
+            if number >= SLOTS as u64 {
+                return Err(Flaw::Wrong(Wrong::SlotTooGreat(term)));
+            }
+            Ok((number as usize, others))
+        }
+    }
 }
 
-/// What the term `pubsub` means before others.
-fn publish_subscribe(alloc: Global, others: &str) -> Result<Command, TermError>
-    ensures { Reads (IsCommandOf (codes "pubsub" ∷ terms_of others.now)) result }
+/// The call by which a text begins, and the text behind it.
+fn how_in<'a>(text: &'a str) -> Result<(How, &'a str), Flaw<'a>>
+    ensures { JudgesFirst NamesCall WrongHow (terms_of text.now) result }
 {
-    let call = parse_call::<PublishSubscribeTerms>(alloc, others)?;
-    Ok(call.into_command(Settings::PublishSubscribe))
+    let Some((term, others)) = next_term(text) else {
+        return Err(Flaw::Wrong(Wrong::NoCall));
+    };
+    match how_of(term) {
+        Ok(how) => Ok((how, others)),
+        Err(_) => Err(Flaw::Wrong(Wrong::NoSuchCall(term))),
+    }
 }
 
-/// What the term `rr` means before others.
-fn request_response(alloc: Global, others: &str) -> Result<Command, TermError>
-    ensures { Reads (IsCommandOf (codes "rr" ∷ terms_of others.now)) result }
-{
-    let call = parse_call::<RequestResponseTerms>(alloc, others)?;
-    Ok(call.into_command(Settings::RequestResponse))
-}
-
-/// The number of a slot.
-#[tactic(auto, using(crate::proofs::Numbers::numbers))]
-fn slot_number(term: &str) -> Result<usize, TermError>
-    ensures { Finds (IsNumber slot_count term.now) result }
-{
-    Ok(number_below(term, SLOTS as u64)? as usize)
-}
-
-pub(crate) fn how_of(term: &str) -> Result<How, TermError>
+fn how_of(term: &str) -> Result<How, TermError>
     ensures { Finds (λ how. term.now ≡ how_term how) result }
 {
     match term {
@@ -149,6 +156,48 @@ pub(crate) fn how_of(term: &str) -> Result<How, TermError>
         "open_or_create" => Ok(How::OpenOrCreate),
         _ => Err(TermError::Malformed),
     }
+}
+
+/// The node by which a text begins, and the text behind it.
+fn node_in<'a>(text: &'a str) -> Result<(u64, &'a str), Flaw<'a>>
+    ensures { JudgesFirst IsNatural WrongNode (terms_of text.now) result }
+{
+    let Some((term, others)) = next_term(text) else {
+        return Err(Flaw::Wrong(Wrong::NoNode));
+    };
+    match number(term) {
+        Ok(node) => Ok((node, others)),
+        Err(_) => Err(Flaw::Wrong(Wrong::NoNodeNumber(term))),
+    }
+}
+
+/// What a pattern's term means before others.
+fn judge_call<'a, V: HasVocabulary>(
+    alloc: Global,
+    others: &'a str,
+) -> Result<NamedCall<V::Setter>, Flaw<'a>>
+    ensures { Judges (IsNamedCallOf V.vocabulary (V.vocabulary.pattern ∷ terms_of others.now))
+        (WrongCall V.vocabulary (terms_of others.now)) result }
+{
+    let (how, others) = how_in(others)?;
+    let (node, others) = node_in(others)?;
+    let (slot, others) = slot_in(others)?;
+    let Some((term, others)) = next_term(others) else {
+        return Err(Flaw::Wrong(Wrong::NoName));
+    };
+    let name = match ServiceName::new(alloc, term) {
+        Ok(name) => name,
+        Err(ServiceNameError::Length) => return Err(Flaw::Wrong(Wrong::NameLength(term))),
+        Err(ServiceNameError::OutOfMemory) => return Err(Flaw::OutOfMemory),
+    };
+    let arguments = judge_arguments::<V>(alloc, how, others)?;
+    Ok(NamedCall {
+        how,
+        node,
+        slot,
+        name,
+        arguments,
+    })
 }
 
 /// Which of the terms that every pattern has go with such a call.
@@ -173,17 +222,17 @@ pub(crate) fn admitted<V: HasVocabulary>(how: How) -> Admitted
 
 /// A call as its line names it, whatever its pattern.
 #[derive(Drop)]
-pub(crate) struct NamedCall<S> {
-    pub(crate) how: How,
-    pub(crate) node: u64,
-    pub(crate) slot: usize,
-    pub(crate) name: ServiceName,
-    pub(crate) arguments: CallArguments<S>,
+struct NamedCall<S> {
+    how: How,
+    node: u64,
+    slot: usize,
+    name: ServiceName,
+    arguments: CallArguments<S>,
 }
 
 impl<S: Drop> NamedCall<S> {
     /// The call of a session, whose settings are made of its setters.
-    pub(crate) fn into_command<F: FnOnce(Vec<S>) -> Settings>(self, settings: F) -> Command
+    fn into_command<F: FnOnce(Vec<S>) -> Settings>(self, settings: F) -> Command
         requires { F.IsAlwaysCallable settings }
         ensures { (call : Call) × (setters : _) × (result ≡ command.Call call)
             × F.post settings setters call.settings × (self ≡ as_named call setters.items) }
@@ -199,56 +248,4 @@ impl<S: Drop> NamedCall<S> {
             now,
         })
     }
-}
-
-/// What a pattern's term means before others.
-fn parse_call<V: HasVocabulary>(
-    alloc: Global,
-    others: &str,
-) -> Result<NamedCall<V::Setter>, TermError>
-    ensures { Reads (IsNamedCallOf V.vocabulary (V.vocabulary.pattern ∷ terms_of others.now)) result }
-{
-    let Some((how, others)) = next_term(others) else {
-        return Err(TermError::Malformed);
-    };
-    let Some((node, others)) = next_term(others) else {
-        return Err(TermError::Malformed);
-    };
-    let Some((slot, others)) = next_term(others) else {
-        return Err(TermError::Malformed);
-    };
-    let Some((name, others)) = next_term(others) else {
-        return Err(TermError::Malformed);
-    };
-    build_call::<V>(alloc, how, node, slot, name, others)
-}
-
-/// What it means before these four and others.
-fn build_call<V: HasVocabulary>(
-    alloc: Global,
-    how: &str,
-    node: &str,
-    slot: &str,
-    name: &str,
-    others: &str,
-) -> Result<NamedCall<V::Setter>, TermError>
-    ensures { Reads (IsNamedCallOf V.vocabulary
-        (V.vocabulary.pattern ∷ how.now ∷ node.now ∷ slot.now ∷ name.now ∷ terms_of others.now)) result }
-{
-    let how = how_of(how)?;
-    let node = number(node)?;
-    let slot = slot_number(slot)?;
-    let name = match ServiceName::new(alloc, name) {
-        Ok(name) => name,
-        Err(ServiceNameError::Length) => return Err(TermError::Malformed),
-        Err(ServiceNameError::OutOfMemory) => return Err(TermError::OutOfMemory),
-    };
-    let arguments = call_arguments::<V>(alloc, admitted::<V>(how), others)?;
-    Ok(NamedCall {
-        how,
-        node,
-        slot,
-        name,
-        arguments,
-    })
 }

@@ -1,8 +1,8 @@
 //! What a pattern calls its settings, and what their values mean.
 
-ghost use Rattle.std.specs.Prelude.{◌≡◌, map};
+ghost use Rattle.std.specs.Prelude.{◌≡◌};
 ghost use Rattle.negotiate_lines.specs.Terms.{Reads};
-ghost use Rattle.negotiate_lines.specs.Vocabulary.{IsUnambiguous, IsSettingOf, Vocabulary, kinds_of};
+ghost use Rattle.negotiate_lines.specs.Vocabulary.{IsUnambiguous, IsSettingOf, Vocabulary, kinds_of, table_of};
 
 use crate::term::TermError;
 use std::alloc::Global;
@@ -24,6 +24,15 @@ pub enum Kind {
     Type,
 }
 
+/// Which of the terms that every pattern has go with a call.
+#[derive(Clone, Copy, Debug, PartialEq, Eq)]
+pub struct Admitted {
+    /// What the clock gives.
+    pub now: bool,
+    /// A key that is required.
+    pub require_key: bool,
+}
+
 /// The terms that a pattern has for itself.
 pub trait HasVocabulary {
     /// A setter of the pattern's builder, with its value.
@@ -38,7 +47,7 @@ pub trait HasVocabulary {
 
     /// Its settings in order, by name, with the kind of value that each takes.
     fn settings() -> &'static [(&'static str, Kind)]
-        ensures { map (λ row. (row.0.now, row.1)) result.now ≡ kinds_of vocabulary.rows };
+        ensures { table_of result.now ≡ kinds_of vocabulary.rows };
 
     /// Whether the calls that create a service are given the time.
     fn has_clock() -> bool

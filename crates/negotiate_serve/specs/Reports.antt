@@ -1,8 +1,9 @@
 -- What is written to the standard error where a program ends.
-use Rattle.std.specs.Prelude.{ℕ, ◌≡◌, List, [], ◌++◌, codes, decimal, Option, None, Result, Ok, Err}
-use Rattle.negotiate_lines.specs.declared.wrong.Wrong.{Wrong}
-use Rattle.negotiate_lines.specs.WrongTexts.{text_of}
-use Rattle.negotiate_lines.specs.Wrongs.{IsJudged, IsWrong}
+use Rattle.std.specs.Prelude.{ℕ, ◌≡◌, List, [], ◌++◌, codes, decimal, Option, Result, Ok, Err}
+use Rattle.negotiate_lines.specs.declared.line.Line.{Line}
+use Rattle.negotiate_lines.specs.declared.line.Line.TheVariants as line
+use Rattle.negotiate_lines.specs.Lines.{IsLine}
+use Rattle.negotiate_lines.specs.WrongTexts.{IsWrongText}
 use Rattle.negotiate_serve.specs.declared.ending.Ending.{Ending}
 use Rattle.negotiate_serve.specs.declared.ending.Ending.TheVariants as ending
 use Rattle.negotiate_serve.specs.declared.ending.ServeError.{ServeError}
@@ -14,16 +15,20 @@ use Rattle.negotiate_serve.specs.Outputs.{Writes}
 abbrev pub failure_line : (program : List ℕ) → ServeError → List ℕ
 failure_line program f = program ++ reason_of f
 
--- the line of what is wrong with the input's line of this number
-abbrev pub wrong_line : (program : List ℕ) → (number : ℕ) → Wrong → List ℕ
-wrong_line program k w =
-    program ++ (codes ": line " ++ (decimal k ++ (codes ": " ++ (text_of w ++ codes "\n"))))
+-- the line of what is wrong with the input's line of this number, which is told so
+abbrev pub wrong_line : (program : List ℕ) → (number : ℕ) → (told : List ℕ) → List ℕ
+wrong_line program k told = program ++ (codes ": line " ++ (decimal k ++ (codes ": " ++ (told ++ codes "\n"))))
 
--- The text is the line of what is wrong with these bytes, which are the input's line of this number. It is empty where
--- nothing is wrong.
-pub data IsReport (program : List ℕ) (number : ℕ) (bytes text : List ℕ) : Type 0 where
-  of_wrong : (w : Wrong) → IsWrong bytes w → text ≡ wrong_line program number w → IsReport program number bytes text
-  nothing : IsJudged bytes None → text ≡ [] → IsReport program number bytes text
+-- The text is the line of what is wrong with the input's line of this number. It is empty where nothing is wrong.
+abbrev pub IsReportOf : (program : List ℕ) → (number : ℕ) → Line → (text : List ℕ) → Type 0
+IsReportOf program k (line.NotACommand w) text =
+    (told : List ℕ) × IsWrongText w told × (text ≡ wrong_line program k told)
+IsReportOf program k known text = text ≡ []
+
+-- The same of the bytes of that line.
+abbrev pub IsReport : (program : List ℕ) → (number : ℕ) → (bytes text : List ℕ) → Type 0
+IsReport program number bytes text =
+    (known : Line) × IsLine bytes known × IsReportOf program number known text
 
 -- Such a text is written, as far as the writer takes it, or there was no memory for it.
 abbrev pub WritesReport : (List ℕ → Type 0) → Result (Unit {0}) ServeError → (old new : Option (List ℕ)) → Type 0

@@ -11,8 +11,8 @@ use Rattle.iceoryx2_call_laws.specs.QuietLaws.{HasNothingAt}
 use Rattle.iceoryx2_session.specs.Sessions.{SessionState}
 use Rattle.iceoryx2_session.specs.StandingSlots.{SlotsStand, OwnsTickets}
 use Rattle.iceoryx2_session.specs.QuietSessions.{IsQuiet}
-use Rattle.negotiate_lines.specs.declared.line.Line.TheVariants as line
-use Rattle.negotiate_lines.specs.Lines.{IsLine}
+use Rattle.negotiate_lines.specs.declared.wrong.Wrong.{Wrong}
+use Rattle.negotiate_lines.specs.Lines.{IsNoCommand}
 use Rattle.negotiate_serve.specs.declared.ending.Ending.{Ending}
 use Rattle.negotiate_serve.specs.declared.ending.ServeError.{ServeError}
 use Rattle.negotiate_serve.specs.declared.ending.ServeError.TheVariants as failure
@@ -22,7 +22,7 @@ use Rattle.negotiate_serve.specs.Endings.{IsOfWriting}
 use Rattle.negotiate_serve.specs.Inputs.{BeginsWith}
 use Rattle.negotiate_serve.specs.Outputs.{IsFrontOf}
 use Rattle.negotiate_serve.specs.Transcripts.{Answering, AnsweringLines, AnswersLineBy, IsAnswered, EndsWith}
-use Rattle.negotiate_serve.specs.Transcripts.{IsErrorReply, IsTranscriptOf}
+use Rattle.negotiate_serve.specs.Transcripts.{IsReplyToWrong, IsTranscriptOf}
 use Rattle.negotiate_serve.specs.Transcripts.{Machine, Replies, first_machine, not_a_command, out_of_memory}
 
 -- ---- a command
@@ -36,18 +36,17 @@ pub record GrowsByAnswer {M : Type 0} (Answers : Answering M) (m : M) (line : Li
 
 -- ---- a line
 
--- what is written of a line that is neither blank nor a command, which has this number, and whether the program goes on
-abbrev pub IsAnswerToWrong : WrongLines → (goes_on : Bool) → (number : ℕ) → (bytes output : List ℕ) → Type 0
-IsAnswerToWrong wrong_lines.End goes_on k bytes output = (goes_on ≡ false) × (output ≡ not_a_command k)
-IsAnswerToWrong wrong_lines.Reply goes_on k bytes output = (goes_on ≡ true) × IsErrorReply [] bytes output
-IsAnswerToWrong wrong_lines.ReplyApart goes_on k bytes output =
-    (goes_on ≡ true) × IsErrorReply (codes "\n") bytes output
+-- what is written of a line of which this is wrong, which has this number, and whether the program goes on
+abbrev pub IsAnswerToWrong : WrongLines → (goes_on : Bool) → (number : ℕ) → Wrong → (output : List ℕ) → Type 0
+IsAnswerToWrong wrong_lines.End goes_on k w output = (goes_on ≡ false) × (output ≡ not_a_command k)
+IsAnswerToWrong wrong_lines.Reply goes_on k w output = (goes_on ≡ true) × IsReplyToWrong [] w output
+IsAnswerToWrong wrong_lines.ReplyApart goes_on k w output = (goes_on ≡ true) × IsReplyToWrong (codes "\n") w output
 
 -- what is written of a line with this number, and whether the program goes on behind it
 abbrev pub IsAnswerTo : {M : Type 0} → AnsweringLines M → (goes_on : Bool) → M → (number : ℕ) → (bytes output : List ℕ)
     → M → Type 0
 IsAnswerTo Answers true m k bytes output n = Answers m bytes output n
-IsAnswerTo Answers false m k bytes output n = IsLine bytes line.NotACommand × (output ≡ not_a_command k)
+IsAnswerTo Answers false m k bytes output n = IsNoCommand bytes × (output ≡ not_a_command k)
 
 -- The text has grown by what is written of the line.
 pub record GrowsByLine {M : Type 0} (Answers : AnsweringLines M) (goes_on : Bool) (m : M) (number : ℕ)

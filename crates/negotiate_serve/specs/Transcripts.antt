@@ -12,10 +12,9 @@ use Rattle.iceoryx2_commands.specs.Commands.{slot_count}
 use Rattle.iceoryx2_session.specs.CommandLists.{CarriesOut}
 use Rattle.iceoryx2_session.specs.QuietSessions.{Moves}
 use Rattle.negotiate_lines.specs.declared.line.Line.TheVariants as line
-use Rattle.negotiate_lines.specs.Lines.{IsLine}
+use Rattle.negotiate_lines.specs.Lines.{IsLine, IsNoCommand}
 use Rattle.negotiate_lines.specs.declared.wrong.Wrong.{Wrong}
-use Rattle.negotiate_lines.specs.Wrongs.{IsWrong}
-use Rattle.negotiate_lines.specs.WrongTexts.{text_of}
+use Rattle.negotiate_lines.specs.WrongTexts.{IsWrongText}
 use Rattle.negotiate_serve.specs.declared.ending.Ending.{Ending}
 use Rattle.negotiate_serve.specs.declared.ending.Ending.TheVariants as ending
 use Rattle.negotiate_serve.specs.declared.ending.ServeError.{ServeError}
@@ -42,16 +41,16 @@ pub data AnswersLineBy {M : Type 0} (Answers : Answering M) (m : M) : (line text
   answered : {bytes text : List ℕ} {c : Command} {n : M} → IsLine bytes (line.Command c)
       → Answers m bytes c text n → AnswersLineBy Answers m bytes text n
 
--- the reply to a line of which this is wrong, with an end after it
-abbrev pub error_reply : Wrong → (end : List ℕ) → List ℕ
-error_reply w end = codes "error: " ++ (text_of w ++ (codes "\n" ++ end))
+-- The text is the reply to a line of which this is wrong, with an end after it.
+abbrev pub IsReplyToWrong : (end : List ℕ) → Wrong → List ℕ → Type 0
+IsReplyToWrong end w text =
+    (told : List ℕ) × IsWrongText w told × (text ≡ codes "error: " ++ (told ++ (codes "\n" ++ end)))
 
 -- The text is the reply to a line that is neither blank nor a command.
 pub record IsErrorReply (end bytes text : List ℕ) : Type 0 where
-  pub no_command : IsLine bytes line.NotACommand
   pub wrong : Wrong
-  pub is_wrong : IsWrong bytes wrong
-  pub text_is : text ≡ error_reply wrong end
+  pub no_command : IsLine bytes (line.NotACommand wrong)
+  pub is_reply : IsReplyToWrong end wrong text
 
 -- Each line is answered, also one that is neither blank nor a command, by what is wrong with it. That leaves the state.
 pub data AnswersEachBy {M : Type 0} (end : List ℕ) (Answers : Answering M) (m : M) : (line text : List ℕ) → M
@@ -82,13 +81,13 @@ pub data ComesNext {M : Type 0} (Answers : AnsweringLines M) (m : M) (k : ℕ) (
   answer : {bytes text behind : List ℕ} {n : M} → BeginsWith rest (bytes ∷ []) behind
       → Answers m bytes text n → ComesNext Answers m k rest text
   no_command : {bytes behind : List ℕ} → BeginsWith rest (bytes ∷ []) behind
-      → IsLine bytes line.NotACommand → ComesNext Answers m k rest (not_a_command k)
+      → IsNoCommand bytes → ComesNext Answers m k rest (not_a_command k)
   no_memory : ComesNext Answers m k rest out_of_memory
 
 -- The next line, which has this number, is neither blank nor a command. Nothing behind it is read.
 pub record IsAtNoCommand (k : ℕ) (bytes rest last unread : List ℕ) : Type 0 where
   pub stands : BeginsWith rest (bytes ∷ []) unread
-  pub no_command : IsLine bytes line.NotACommand
+  pub no_command : IsNoCommand bytes
   pub output : last ≡ not_a_command k
 
 -- The writer has taken a front of what comes next.

@@ -1,20 +1,18 @@
 //! Lines in, answers out.
 
 ghost use Rattle.std.specs.Prelude.{◌≡◌, ℕ, List, Some, IfOk, IfSome, OnOk, false, string_bytes};
-ghost use Rattle.negotiate_lines.specs.declared.line.Line.TheVariants as parsed;
-ghost use Rattle.negotiate_lines.specs.Lines.{IsLine};
 ghost use Rattle.negotiate_serve.specs.declared.ending.WrongLines.TheVariants as wrong;
 ghost use Rattle.negotiate_serve.specs.Replies.{GrowsBy};
 ghost use Rattle.negotiate_serve.specs.Served.{AnswersAll, IsAnswerToWrong, GrowsByLine, TakesTurn};
-ghost use Rattle.negotiate_serve.specs.Transcripts.{AnswersLineBy, IsErrorReply, LinesBy, MayEnd, error_reply};
+ghost use Rattle.negotiate_serve.specs.Transcripts.{AnswersLineBy, IsReplyToWrong, LinesBy, MayEnd};
 
 use crate::answerer::Answerer;
 use crate::ending::{Ending, ServeError, WrongLines};
 use crate::input::next_line;
 use crate::output::write_out;
-use negotiate_lines::finding::wrong_in;
 use negotiate_lines::line::{self, Line};
 use negotiate_lines::wrong::Wrong;
+use negotiate_lines::wrong_text::wrong_text;
 use std::alloc::{AllocError, Global};
 use std::io::{BufRead, Write};
 use std::mem;
@@ -98,7 +96,7 @@ fn answer_line<A: Answerer>(
 {
     match line::parse(*text.allocator(), line)? {
         Line::Blank => Ok(true),
-        Line::NotACommand => answer_wrong(number, wrong_lines, line, text),
+        Line::NotACommand(wrong) => answer_wrong(number, wrong_lines, wrong, text),
         Line::Command(command) => {
             answerer.answer(line, command, text)?;
             Ok(true)
@@ -106,15 +104,14 @@ fn answer_line<A: Answerer>(
     }
 }
 
-/// Writes what is written of a line that is neither blank nor a command, and returns whether the program goes on.
+/// Writes what is written of a line of which this is wrong, and returns whether the program goes on.
 fn answer_wrong(
     number: u64,
     wrong_lines: WrongLines,
-    line: &[u8],
+    wrong: Wrong<'_>,
     text: &mut String,
 ) -> Result<bool, AllocError>
-    requires { IsLine line.now parsed.NotACommand }
-    ensures { IfOk result (λ goes_on. GrowsBy (IsAnswerToWrong wrong_lines goes_on number line.now)
+    ensures { IfOk result (λ goes_on. GrowsBy (IsAnswerToWrong wrong_lines goes_on number wrong.entry)
         (string_bytes text.old) (string_bytes text.new)) }
 {
     match wrong_lines {
@@ -123,30 +120,21 @@ fn answer_wrong(
             Ok(false)
         }
         WrongLines::Reply => {
-            reply_wrong(line, "", text)?;
+            reply_wrong(wrong, "", text)?;
             Ok(true)
         }
         WrongLines::ReplyApart => {
-            reply_wrong(line, "\n", text)?;
+            reply_wrong(wrong, "\n", text)?;
             Ok(true)
         }
     }
 }
 
-/// Writes the reply to a line that is neither blank nor a command, and an end after it.
-fn reply_wrong(line: &[u8], end: &str, text: &mut String) -> Result<(), AllocError>
-    requires { IsLine line.now parsed.NotACommand }
-    ensures { OnOk result (GrowsBy (IsErrorReply end.now line.now) (string_bytes text.old) (string_bytes text.new)) }
-{
-    match wrong_in(*text.allocator(), line)? {
-        Some(wrong) => write_wrong(wrong, end, text),
-        None => Ok(()),
-    }
-}
-
-fn write_wrong(wrong: Wrong<'_>, end: &str, text: &mut String) -> Result<(), AllocError>
-    ensures { OnOk result (GrowsBy (λ output. output ≡ error_reply wrong.entry end.now)
+/// Writes the reply to a line of which this is wrong, and an end after it.
+fn reply_wrong(wrong: Wrong<'_>, end: &str, text: &mut String) -> Result<(), AllocError>
+    ensures { OnOk result (GrowsBy (IsReplyToWrong end.now wrong.entry)
         (string_bytes text.old) (string_bytes text.new)) }
 {
-    write!(text, "error: {wrong}\n{end}")
+    let told = wrong_text(*text.allocator(), wrong)?;
+    write!(text, "error: {told}\n{end}")
 }

@@ -1,13 +1,13 @@
 //! What is written to the standard error where a program ends.
 
-ghost use Rattle.std.specs.Prelude.{◌≡◌, IfOk, string_bytes};
+ghost use Rattle.std.specs.Prelude.{IfOk, string_bytes};
 ghost use Rattle.negotiate_serve.specs.Outputs.{Writes};
-ghost use Rattle.negotiate_serve.specs.Reports.{IsReport, Reports, WritesReport, failure_line, wrong_line};
+ghost use Rattle.negotiate_serve.specs.Reports.{IsReport, IsReportOf, Reports, WritesReport, failure_line};
 
 use crate::ending::{Ending, ServeError};
 use crate::output::write_out;
-use negotiate_lines::finding::wrong_in;
-use negotiate_lines::wrong::Wrong;
+use negotiate_lines::line::{Line, parse};
+use negotiate_lines::wrong_text::wrong_text;
 use std::alloc::{AllocError, Global};
 use std::io::Write;
 
@@ -53,29 +53,36 @@ fn report_line<W: Write>(
     ensures { WritesReport (IsReport program.now number line.now.items) result
         (W.contents errors.old) (W.contents errors.new) }
 {
-    match wrong_line(*line.allocator(), program, number, line) {
+    match report_text(*line.allocator(), program, number, line) {
         Ok(text) => write_out(text.as_bytes(), errors),
         Err(_) => Err(ServeError::OutOfMemory),
     }
 }
 
 /// What is written of a line with this number: what is wrong with it, if anything is.
-fn wrong_line(alloc: Global, program: &str, number: u64, line: &[u8]) -> Result<String, AllocError>
+fn report_text(alloc: Global, program: &str, number: u64, line: &[u8]) -> Result<String, AllocError>
     ensures { IfOk result (λ text. IsReport program.now number line.now (string_bytes text)) }
 {
-    match wrong_in(alloc, line)? {
-        Some(wrong) => line_text(alloc, program, number, wrong),
-        None => Ok(String::new(alloc)),
+    match parse(alloc, line) {
+        Ok(known) => line_text(alloc, program, number, known),
+        Err(error) => Err(error),
     }
 }
 
+/// What is written of a line that is this.
 fn line_text(
     alloc: Global,
     program: &str,
     number: u64,
-    wrong: Wrong<'_>,
+    known: Line<'_>,
 ) -> Result<String, AllocError>
-    ensures { IfOk result (λ text. string_bytes text ≡ wrong_line program.now number wrong.entry) }
+    ensures { IfOk result (λ text. IsReportOf program.now number known.entry (string_bytes text)) }
 {
-    format!(in alloc; "{program}: line {number}: {wrong}\n")
+    match known {
+        Line::NotACommand(wrong) => {
+            let told = wrong_text(alloc, wrong)?;
+            format!(in alloc; "{program}: line {number}: {told}\n")
+        }
+        _ => Ok(String::new(alloc)),
+    }
 }

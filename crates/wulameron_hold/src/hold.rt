@@ -11,8 +11,9 @@ use iceoryx2_journal::journal::Journal;
 use iceoryx2_monitoring::state::{self, NodeStatus};
 use iceoryx2_session::session::Session;
 use negotiate_explain::refusals::RefusalRow;
-use negotiate_lines::finding::wrong_in;
+use negotiate_lines::line::{Line, parse};
 use negotiate_lines::wrong::Wrong;
+use negotiate_lines::wrong_text::wrong_text;
 use negotiate_serve::ending::{FAULT, NOT_A_COMMAND, ServeError};
 use negotiate_serve::output::write_out;
 use negotiate_serve::reply::describe;
@@ -79,12 +80,12 @@ fn refuse_words<E: Write>(alloc: Global, hold: &Hold<'_>, errors: &mut E) -> Opt
     let Ok(line) = call_line(alloc, 0, hold) else {
         return Some(no_memory(errors));
     };
-    match wrong_in(alloc, line.as_bytes()) {
-        Ok(None) => None,
-        Ok(Some(wrong)) => {
+    match parse(alloc, line.as_bytes()) {
+        Ok(Line::NotACommand(wrong)) => {
             let _ = report_words(alloc, wrong, errors);
             Some(NOT_A_COMMAND)
         }
+        Ok(_) => None,
         Err(_) => Some(no_memory(errors)),
     }
 }
@@ -95,10 +96,16 @@ fn report_words<E: Write>(
     wrong: Wrong<'_>,
     errors: &mut E,
 ) -> Result<(), ServeError> {
-    match format!(in alloc; "wulameron: {wrong}\n") {
+    match words_line(alloc, wrong) {
         Ok(line) => write_out(line.as_bytes(), errors),
         Err(_) => Err(ServeError::OutOfMemory),
     }
+}
+
+/// The line of what is wrong with the words of a call.
+fn words_line(alloc: Global, wrong: Wrong<'_>) -> Result<String, AllocError> {
+    let told = wrong_text(alloc, wrong)?;
+    format!(in alloc; "wulameron: {told}\n")
 }
 
 /// Does so for a node that is claimed. The words are a call, so where they are none there is no memory.

@@ -191,8 +191,8 @@ pub fn call_of(alloc: Global, line: &[u8], node: u64) -> Option<Call>
 }
 
 /// The call, where it is one in the name of this node.
-fn call_in(line: Line, node: u64) -> Option<Call>
-    ensures { IfSome result (λ call. (line ≡ parsed.Command (command.Call call)) × (call.node ≡ node)) }
+fn call_in(line: Line<'_>, node: u64) -> Option<Call>
+    ensures { IfSome result (λ call. (line.entry ≡ parsed.Command (command.Call call)) × (call.node ≡ node)) }
 {
     match line {
         Line::Command(named) => named_call(named, node),

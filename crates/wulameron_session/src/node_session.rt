@@ -10,8 +10,8 @@ use crate::texts::{BAD_LINE, done_text_frame, of_last_trouble, of_monitoring, te
 use iceoryx2_commands::command::{Command, SLOTS};
 use iceoryx2_monitoring::state::{NodeState, NodeStatus};
 use iceoryx2_session::world_storage::WorldStorage;
-use negotiate_lines::finding::wrong_in;
 use negotiate_lines::line::{self, Line};
+use negotiate_lines::wrong_text::wrong_text;
 use negotiate_serve::answerer::Answerer;
 use std::alloc::Global;
 use wulameron_calls::replies::{
@@ -209,7 +209,10 @@ impl<S: WorldStorage + Troubled, N: SharedNodes + Drop> NodeSession<S, N> {
     fn line(self, alloc: Global, line: &[u8]) -> (NodeSession<S, N>, Frame) {
         match line::parse(alloc, line) {
             Ok(Line::Blank) => (self, with_text(alloc, b"")),
-            Ok(Line::NotACommand) => (self, wrong_line_frame(alloc, line)),
+            Ok(Line::NotACommand(wrong)) => {
+                let reply = text_frame(alloc, BAD_LINE, wrong_text(alloc, wrong));
+                (self, reply)
+            }
             Ok(Line::Command(command)) => self.command(alloc, line, command),
             Err(_) => (self, with_code(alloc, OUT_OF_MEMORY)),
         }
@@ -250,15 +253,6 @@ impl<S: WorldStorage + Troubled, N: SharedNodes + Drop> NodeSession<S, N> {
             Ok(()) => (session, done_text_frame(alloc, Ok(text))),
             Err(_) => (session, with_code(alloc, OUT_OF_MEMORY)),
         }
-    }
-}
-
-/// The reply to a line that is no command.
-fn wrong_line_frame(alloc: Global, line: &[u8]) -> Frame {
-    match wrong_in(alloc, line) {
-        Ok(Some(wrong)) => text_frame(alloc, BAD_LINE, format!(in alloc; "{wrong}")),
-        Ok(None) => with_code(alloc, BAD_LINE),
-        Err(_) => with_code(alloc, OUT_OF_MEMORY),
     }
 }
 

@@ -9,8 +9,7 @@ use Rattle.iceoryx2_session.specs.SessionStates.{own_state}
 use Rattle.iceoryx2_session.specs.Sessions.{SessionOver, AppliesBy}
 use Rattle.iceoryx2_world.specs.World.{World}
 use Rattle.negotiate_lines.specs.Lines.{IsLine}
-use Rattle.negotiate_lines.specs.WrongTexts.{text_of}
-use Rattle.negotiate_lines.specs.Wrongs.{IsWrong}
+use Rattle.negotiate_lines.specs.WrongTexts.{IsWrongText}
 use Rattle.negotiate_lines.specs.declared.line.Line.TheVariants as parsed
 use Rattle.negotiate_lines.specs.declared.wrong.Wrong.{Wrong}
 use Rattle.negotiate_serve.specs.Replies.{IsReplyText}
@@ -27,8 +26,8 @@ pub data KeepsReply (slot : ℕ) (old : Answer) : Reply → (code : ℕ) → Ans
 
 -- What is wrong with a line is kept, or there was no memory for it.
 pub data KeepsWrong (line : List ℕ) (old : Answer) : (code : ℕ) → Answer → Type 0 where
-  wrong : {w : Wrong} {text : String Global} → IsLine line parsed.NotACommand → IsWrong line w
-      → string_bytes text ≡ text_of w → KeepsWrong line old 31 (answer.Wrong text)
+  wrong : {w : Wrong} {text : String Global} → IsLine line (parsed.NotACommand w)
+      → IsWrongText w (string_bytes text) → KeepsWrong line old 31 (answer.Wrong text)
   no_memory : KeepsWrong line old 4 old
 
 -- the text of an answer: the text of the reply, or what is wrong with the line

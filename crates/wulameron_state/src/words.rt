@@ -1,6 +1,6 @@
 //! One line in `negotiate`'s words, and what is answered to it.
 
-ghost use Rattle.std.specs.Prelude.{◌≡◌, IfOk, OnOk, string_bytes};
+ghost use Rattle.std.specs.Prelude.{◌≡◌, ℕ, List, IfOk, OnOk, string_bytes};
 ghost use Rattle.iceoryx2_commands.specs.declared.command.Command.{Command};
 ghost use Rattle.iceoryx2_session.specs.SessionStates.{own_nodes, own_state, world_state};
 ghost use Rattle.iceoryx2_session.specs.StandingSlots.{IsOfOwn};
@@ -17,8 +17,9 @@ use crate::state::State;
 use iceoryx2_commands::command::{Command, Reply};
 use iceoryx2_session::session::Session;
 use iceoryx2_session::world_storage::WorldStorage;
-use negotiate_lines::finding::wrong_in;
 use negotiate_lines::line::{Line, parse};
+use negotiate_lines::wrong::Wrong;
+use negotiate_lines::wrong_text::wrong_text;
 use negotiate_serve::answerer::slot_of;
 use negotiate_serve::reply::describe;
 use std::alloc::{AllocError, Global};
@@ -67,7 +68,7 @@ pub fn line<S: WorldStorage>(state: &mut State<S>, alloc: Global, line: &[u8]) -
             DONE
         }
         Ok(Line::Command(command)) => { carry_out(&mut state.session, &mut state.answer, command) }
-        Ok(Line::NotACommand) => answer_wrong(alloc, line, &mut state.answer),
+        Ok(Line::NotACommand(wrong)) => answer_wrong(alloc, wrong, &mut state.answer),
         Err(_) => OUT_OF_MEMORY,
     }
 }
@@ -104,18 +105,15 @@ fn keep(reply: Reply, slot: usize, answer: &mut Answer) -> u32
 }
 
 /// Keeps what is wrong with a line that is neither blank nor a command.
-fn answer_wrong(alloc: Global, line: &[u8], answer: &mut Answer) -> u32
-    ensures { KeepsWrong line.now answer.old result answer.new }
+fn answer_wrong(alloc: Global, wrong: Wrong<'_>, answer: &mut Answer) -> u32
+    ensures { (line : List ℕ) → IsLine line (parsed.NotACommand wrong.entry)
+        → KeepsWrong line answer.old result answer.new }
 {
-    match wrong_in(alloc, line) {
-        Ok(Some(wrong)) => match format!(in alloc; "{wrong}") {
-            Ok(text) => {
-                *answer = Answer::Wrong(text);
-                BAD_LINE
-            }
-            Err(_) => OUT_OF_MEMORY,
-        },
-        Ok(None) => OUT_OF_MEMORY,
+    match wrong_text(alloc, wrong) {
+        Ok(text) => {
+            *answer = Answer::Wrong(text);
+            BAD_LINE
+        }
         Err(_) => OUT_OF_MEMORY,
     }
 }

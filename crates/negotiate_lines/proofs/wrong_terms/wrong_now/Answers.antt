@@ -1,5 +1,5 @@
 use Rattle.std.proofs.Common.{◌≡◌, true, refl, sym, subst, arith}
-use Rattle.negotiate_lines.specs.Lines.{admitted_of}
+use Rattle.negotiate_lines.specs.Commands.{admitted_of}
 use Rattle.negotiate_lines.proofs.WrongTerms.{no_time}
 use Rattle.negotiate_lines.proofs.wrong_terms.wrong_now.Goals as goal
 

@@ -8,17 +8,14 @@ pub returns-in-Blank-clause-answered : goal.returns-in-Blank-clause-answered
 returns-in-Blank-clause-answered g c = λ stands.
     answers_nothing g.A.Answerer.answers c.args.answerer.now c.args.number c.args.line.now (string_bytes c.args.text.now) c.args.wrong_lines c.in_ok-parse.field-0 c.in_ok-parse.ensures c.in-Blank.is
 
-pub answer_wrong-requires : goal.answer_wrong-requires
-answer_wrong-requires g c = subst (IsLine c.args.line.now) c.in-NotACommand.is c.in_ok-parse.ensures
-
 pub returns-in-NotACommand-clause-answered : goal.returns-in-NotACommand-clause-answered
 returns-in-NotACommand-clause-answered g c = λ stands.
-    wrong_answered c.args.number c.args.line.now (string_bytes c.args.text.now) (string_bytes c.answer_wrong.new.text) g.A.Answerer.answers c.args.answerer.now
-    (subst (IsLine c.args.line.now) c.in-NotACommand.is c.in_ok-parse.ensures) c.args.wrong_lines c.answer_wrong.result c.answer_wrong.ensures
+    wrong_answered c.args.number c.in-NotACommand.wrong (string_bytes c.args.text.now) (string_bytes c.answer_wrong.new.text) g.A.Answerer.answers c.args.answerer.now
+    c.args.line.now (subst (IsLine c.args.line.now) c.in-NotACommand.is c.in_ok-parse.ensures) c.args.wrong_lines c.answer_wrong.result c.answer_wrong.ensures
 
 pub returns-in-NotACommand-clause-ends : goal.returns-in-NotACommand-clause-ends
 returns-in-NotACommand-clause-ends g c =
-    wrong_ends c.args.number c.args.line.now (string_bytes c.args.text.now) (string_bytes c.answer_wrong.new.text) c.args.wrong_lines c.answer_wrong.result c.answer_wrong.ensures
+    wrong_ends c.args.number c.in-NotACommand.wrong (string_bytes c.args.text.now) (string_bytes c.answer_wrong.new.text) c.args.wrong_lines c.answer_wrong.result c.answer_wrong.ensures
 
 pub returns-in_ok-answer-in-Command-clause-answered : goal.returns-in_ok-answer-in-Command-clause-answered
 returns-in_ok-answer-in-Command-clause-answered g c = λ stands.

@@ -16,7 +16,8 @@ returns-in-Ok-Command-clause-stands g c = λ old mine.
     c.carry_out.ensures.stands old (mine c.in-Ok-Command.command (rw c.in-Ok-Command.field-0-is at c.in-Ok-Command.ensures))
 
 pub returns-in-Ok-NotACommand-clause-line : goal.returns-in-Ok-NotACommand-clause-line
-returns-in-Ok-NotACommand-clause-line g c = (wrong c.answer_wrong.ensures, refl)
+returns-in-Ok-NotACommand-clause-line g c =
+    (wrong (c.answer_wrong.ensures c.args.line.now (rw c.in-Ok-NotACommand.field-0-is at c.in-Ok-NotACommand.ensures)), refl)
 
 pub returns-in-Err-clause-line : goal.returns-in-Err-clause-line
 returns-in-Err-clause-line g c = (no_memory, refl)
