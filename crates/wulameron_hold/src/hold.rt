@@ -257,17 +257,17 @@ fn report_refusal<E: Write>(
     refusal: Refusal,
     errors: &mut E,
 ) -> Result<(), ServeError> {
-    match refusal_line(alloc, path, refusal) {
-        Ok(line) => write_out(line.as_bytes(), errors),
+    match refusal_text(alloc, refusal) {
+        Ok(text) => report_wrong(alloc, path, text.as_str(), errors),
         Err(_) => Err(ServeError::OutOfMemory),
     }
 }
 
-/// The line of a refusal.
-fn refusal_line(alloc: Global, path: &str, refusal: Refusal) -> Result<String, AllocError> {
+/// The text of a refusal, and what can be done.
+fn refusal_text(alloc: Global, refusal: Refusal) -> Result<String, AllocError> {
     let mut text = String::new(alloc);
     describe(&Reply::Refused(refusal), 0, &mut text)?;
     let error = text.as_str().trim_end();
     let advice = RefusalRow::of(refusal).what_can_be_done;
-    format!(in alloc; "wulameron: {path}: {error}; {advice}\n")
+    format!(in alloc; "{error}; {advice}")
 }

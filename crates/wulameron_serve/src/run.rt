@@ -16,7 +16,6 @@ use iceoryx2_monitoring::error::MonitoringError;
 use iceoryx2_monitoring::token::{Token, claim, claim_free};
 use iceoryx2_session::world_storage::WorldStorage;
 use negotiate_serve::ending::{Ending, FAULT, ServeError, WrongLines, status};
-use negotiate_serve::output::write_out;
 use negotiate_serve::report::{report, report_failure};
 use negotiate_serve::serve::write_failure;
 use std::alloc::Global;
@@ -28,7 +27,7 @@ use std::time::Clock;
 use wulameron_arguments::asked::Run;
 use wulameron_clean::dead::{DeadNodes, NodeFiles};
 use wulameron_trouble::trouble::{
-    Refusing, Trouble, Troubled, Watch, report_claim, report_trouble,
+    Refusing, Trouble, Troubled, Watch, report_claim, report_trouble, report_wrong,
 };
 
 /// Answers the lines of an input over the log in a file, which is made where there is none, and gives the status with
@@ -65,8 +64,8 @@ fn report_node<E: Write>(
     node: u64,
     errors: &mut E,
 ) -> Result<(), ServeError> {
-    match format!(in alloc; "wulameron: {path}: this is node {node}\n") {
-        Ok(line) => write_out(line.as_bytes(), errors),
+    match format!(in alloc; "this is node {node}") {
+        Ok(text) => report_wrong(alloc, path, text.as_str(), errors),
         Err(_) => Err(ServeError::OutOfMemory),
     }
 }

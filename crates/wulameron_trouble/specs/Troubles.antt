@@ -6,6 +6,7 @@ use Rattle.std.specs.declared.io.ErrorKind.TheVariants as system
 use Rattle.iceoryx2_file_log.specs.declared.error.FileFault.{FileFault}
 use Rattle.iceoryx2_file_log.specs.declared.error.FileFault.TheVariants as file
 use Rattle.iceoryx2_file_log.specs.Errors.{fault_text}
+use Rattle.negotiate_lines.specs.Escapes.{escaped}
 use Rattle.negotiate_serve.specs.declared.ending.ServeError.{ServeError}
 use Rattle.negotiate_serve.specs.declared.ending.ServeError.TheVariants as failure
 use Rattle.negotiate_serve.specs.Outputs.{Writes}
@@ -76,7 +77,7 @@ trouble_text (trouble.Refused f) = Some (fault_text f ++ codes "; " ++ advice_of
 
 -- the line of a trouble with the log of this path
 abbrev pub trouble_line : (path text : List ℕ) → List ℕ
-trouble_line path text = codes "wulameron: " ++ path ++ codes ": " ++ text ++ codes "\n"
+trouble_line path text = codes "wulameron: " ++ escaped path ++ codes ": " ++ text ++ codes "\n"
 
 -- The line is written, as far as the writer takes it, or there was no memory for it.
 abbrev pub WritesLine : (line : List ℕ) → Result (Unit {0}) ServeError → (old new : Option (List ℕ)) → Type 0

@@ -12,6 +12,7 @@ use iceoryx2_file_log::file_log::FileLog;
 use iceoryx2_journal::journal::Journal;
 use iceoryx2_log::log::Log;
 use iceoryx2_monitoring::error::MonitoringError;
+use negotiate_lines::escape::escaped_text;
 use negotiate_serve::ending::ServeError;
 use negotiate_serve::output::write_out;
 use std::alloc::{AllocError, Global};
@@ -202,7 +203,7 @@ pub fn report_wrong<D: fmt::Display + Copy, E: Write>(
     }
 }
 
-/// The line of what goes wrong with the log of this path.
+/// The line of what goes wrong with the log of this path, which is escaped as names are.
 fn line_of<D: fmt::Display + Copy>(
     alloc: Global,
     path: &str,
@@ -211,6 +212,7 @@ fn line_of<D: fmt::Display + Copy>(
     ensures { (text : List ℕ) → D.output wrong ≡ Some text
         → IfOk result (λ line. string_bytes line ≡ trouble_line path.now text) }
 {
+    let path = escaped_text(alloc, path)?;
     format!(in alloc; "wulameron: {path}: {wrong}\n")
 }
 
