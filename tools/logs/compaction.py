@@ -7,7 +7,7 @@ import time
 from logs.deaths import DEAD, OTHER, alone, beside, check_clean, check_end, place, twice
 from logs.form import MOST_ATTRIBUTES, read_log
 from logs.history import FILLER, SHORT_LENGTH, check_beside, kept_folder, standing
-from logs.runs import FAULT, NO_CLEAN, REMOVED, Living, at_once
+from logs.runs import NO_CLEAN, Living, at_once
 from logs.storm import PREFIXES, Process, check_entries, check_listings, check_replies, check_world
 from logs.world import World
 from logs.writing import created, ended, event_form, text_bytes
@@ -212,61 +212,31 @@ def dead_before(runs):
     print(f"compacted after {done} of {len(tries)} deaths")
 
 
-# ---- a log that was taken away
+# ---- a log with a second name
 
 
-def take_away(path, kind):
-    """The log loses its path, or gets another name beside it."""
-    other = path.with_name("elsewhere")
-    if kind == "removed":
-        path.unlink()
-    elif kind == "renamed":
-        path.rename(other)
-    else:
-        os.link(path, other)
-
-
-def use_away(runs, worker, path, kind, what):
-    """A process goes on with a log that has another name too, and is refused and over where the log lost its path."""
-    if kind != "linked":
-        reply = worker.reply(f"event create {WORKER} 0 busy")
-        runs.need(str(reply).startswith("EventCreateError::"), f"{what}: it replied {reply}")
-        return (FAULT, [], f"wulameron: {path}: {REMOVED}; start the program again\n")
-    made = []
+def linked(runs):
+    """A log gets a second name while a process uses it, and another one comes: it isn't compacted any more."""
+    path, what = runs.file("linked"), "a log that is linked"
+    worker = Living(runs, path, WORKER)
+    made = [worker.reply(f"event create {WORKER} 1 kept")]
+    os.link(path, path.with_name("elsewhere"))
+    other = Living(runs, path, IDLE)
+    made.append(other.reply(f"event create {IDLE} 1 beside"))
+    stood = standing(path)[0]
     for _ in range(2 * PAIRS):
         made += [worker.reply(f"event create {WORKER} 0 busy"), worker.reply("close 0")]
     runs.need(None not in made and all(reply[:3] in ("ok ", "clo") for reply in made), f"{what}: it replied {made}")
-    return (0, [], "")
-
-
-def taken_away(runs, kind):
-    """A log is taken away while a process uses it, and another one is made. Its process never gives it the path back."""
-    path, what = runs.file(kind), f"a log that is {kind}"
-    worker = Living(runs, path, WORKER)
-    made = [worker.reply(f"event create {WORKER} 1 kept")]
-    take_away(path, kind)
-    other = Living(runs, path, IDLE)
-    made.append(other.reply(f"event create {IDLE} 1 beside"))
-    runs.need(all(str(reply).startswith("ok ") for reply in made), f"{what}: it replied {made}")
-    stood = standing(path)[0]
-    ended = use_away(runs, worker, path, kind, what)
     runs.need(standing(path)[0] == stood, f"{what}: another file has the path")
     runs.need(not path.with_name("log.compacted").exists(), f"{what}: a file is left beside it")
-    listed, wanted = services(other.listing()), {"beside"} if kind != "linked" else {"beside", "kept"}
-    runs.need(set(listed) == wanted, f"{what}: it lists {listed}")
-    for process, wanted in ((worker, ended), (other, (0, [], ""))):
+    listed = services(other.listing())
+    runs.need(set(listed) == {"beside", "kept"}, f"{what}: it lists {listed}")
+    for process in (worker, other):
         ran = process.end()
-        runs.need((ran.status, ran.out, ran.err) == wanted, f"{what}: node {process.node} ended with {ran}")
-
-
-def away(runs):
-    """A log is removed, renamed, or linked under a second name."""
-    for kind in ("removed", "renamed", "linked"):
-        taken_away(runs, kind)
-    print("a log that was removed, renamed or linked doesn't come back, and is over where it lost its path")
+        runs.need((ran.status, ran.out, ran.err) == (0, [], ""), f"{what}: node {process.node} ended with {ran}")
 
 
 def compaction(runs):
     """All of it, one after the other."""
-    for part in (idle, several, dead_before, away):
+    for part in (idle, several, dead_before, linked):
         part(runs)

@@ -22,7 +22,7 @@ FAULT = 3
 BUSY = "others hold the log"
 NO_LOG = "is no log"
 NO_PERMISSION = "no permission"
-REMOVED = "was removed or renamed"
+GONE = "was removed or renamed"
 # By which a node that has died is left as it is.
 NO_CLEAN = "--no-clean"
 # How many things are tried at once, and how many at least, however long they take.
