@@ -43,6 +43,9 @@ STOP_SECONDS = 0.04
 STOPPED_WAIT = 200
 # How long who is creating is waited for.
 CREATION_SECONDS = 0.5
+# Of claims of a node that another has for a moment: for how long, how long it is waited, and how long where it stays.
+CLAIM_SECONDS = 0.3
+LONG_WAIT, SHORT_WAIT = 1000, 100
 # Of two that clean up at once.
 TWENTY = 20
 LINES_EACH = 8
@@ -409,6 +412,31 @@ def alive(runs):
     texts = {other.end().err for other in others}
     fine = replies == ["0 services"] * PROCESSES and len(texts) == PROCESSES
     runs.need(fine, f"{what}: {PROCESSES} at once replied {replies} and wrote {texts}")
+
+
+def claim(runs, path, words, wait, seconds):
+    """Runs a program that claims a node which another has for so many seconds. Gives also how long it ran."""
+    with open(node_path(path, DEAD), "rb") as file:
+        fcntl.flock(file, fcntl.LOCK_EX)
+        timer, begin = threading.Timer(seconds, fcntl.flock, [file, fcntl.LOCK_UN]), time.monotonic()
+        timer.start()
+        words = [runs.program, *words, "--at", str(path), "--node", str(DEAD), "--wait", str(wait)]
+        ran = runs.ran(words, ["list"], env=runs.environment(path))
+        seconds = time.monotonic() - begin
+        timer.join()
+    return ran, seconds
+
+
+def claims(runs):
+    """Who claims a node that another has for a moment waits for it, as one who cleans up has it, as long as it may."""
+    for words in (["run"], ["hold", "event", "create", NAME]):
+        path, what = runs.file("claims"), f"a claim of a node by {words[0]}, which another has for a moment"
+        leave_node(path, DEAD)
+        ran, _ = claim(runs, path, words, LONG_WAIT, CLAIM_SECONDS)
+        runs.need((ran.status, ran.err) == (0, "") and ran.out, f"{what}: {ran}")
+        ran, seconds = claim(runs, path, words, SHORT_WAIT, 2 * CLAIM_SECONDS)
+        fine = (ran.status, ran.out, ran.err) == (FAULT, [], alive_text(path, DEAD)) and seconds >= SHORT_WAIT / 1000
+        runs.need(fine, f"{what}, of {SHORT_WAIT} milliseconds: {ran} after {seconds:.3f} seconds")
 
 
 def stopped(runs):
