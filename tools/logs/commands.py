@@ -35,10 +35,10 @@ def interruptible():
 class Command:
     """A process of the program whose lines are read as they come, and whose input is open until it is ended."""
 
-    def __init__(self, runs, path, *words):
-        streams = {name: subprocess.PIPE for name in ("stdin", "stdout", "stderr")}
+    def __init__(self, runs, path, *words, **others):
+        others |= {name: subprocess.PIPE for name in ("stdin", "stdout", "stderr")}
         self.process = subprocess.Popen(
-            [runs.program, *words, "--at", str(path)], env=runs.environment(path), preexec_fn=interruptible, **streams
+            [runs.program, *words, "--at", str(path)], env=runs.environment(path), preexec_fn=interruptible, **others
         )
         runs.count("processes")
         self.lines = queue.Queue()
@@ -85,9 +85,9 @@ class Command:
         self.process.wait(SECONDS)
 
 
-def once(runs, path, *words):
+def once(runs, path, *words, **others):
     """Runs a command until it ends."""
-    return runs.ran([runs.program, *words, "--at", str(path)], env=runs.environment(path))
+    return runs.ran([runs.program, *words, "--at", str(path)], env=runs.environment(path), **others)
 
 
 def listed(runs, path):

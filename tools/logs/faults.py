@@ -8,6 +8,7 @@ import subprocess
 import threading
 import time
 
+from logs.commands import BEGUN, Command, once
 from logs.form import FILE_HEADER_LENGTH, read_log
 from logs.runs import BUSY, FAULT, NO_CLEAN, NO_LOG, NO_PERMISSION, Living, at_once, front_before, fronts_of
 from logs.runs import leave_node, listings_of, node_files, node_path, snapshot, telling_first
@@ -20,6 +21,9 @@ NODE = 77
 LINES = [f"event open {NODE} 0 absent", "list", f"event create {NODE} 1 fresh", "list"]
 # A user who isn't root, to whom permissions mean something.
 NOBODY = 65534
+# The commands that only look at a log, but for `watch`; and how many bytes its last entry lacks where it is torn.
+LOOKS = (["list"], ["list", "--json"], ["show", "lamps"], ["show", "lamps", "--json"], ["log"], ["check"])
+TORN = 9
 
 
 def make_log(runs):
@@ -193,6 +197,61 @@ def refused_permissions(runs, data):
     fine = ran.status == FAULT and f"{node_path(folder, NODE)}: {NO_PERMISSION}" in ran.err
     runs.need(fine, f"a folder that is read-only: {ran}")
     runs.need(not os.listdir(folder.parent), "a folder that is read-only: something was made")
+
+
+def reader_fault(runs, path, own, words, other):
+    """What is wrong where a user looks at a log that it may only read. Its owner looks at the same log at own."""
+    before = snapshot(path)
+    ran = once(runs, path, *words, **other)
+    if snapshot(path) != before:
+        return f"{' '.join(words)} changed something"
+    wanted = once(runs, own, *words)
+    fine = (ran.status, ran.out, ran.err.replace(str(path), str(own))) == (wanted.status, wanted.out, wanted.err)
+    return None if fine else f"{' '.join(words)} replied {ran}, and to its owner {wanted}"
+
+
+def check_readers(runs, places, other, what):
+    """Who may only read a log is answered as its owner, and changes nothing."""
+    found = [reader_fault(runs, *places(), words, other) for words in LOOKS]
+    found = [fault for fault in found if fault]
+    runs.need(not found, f"{what}, {len(found)} of {len(LOOKS)} commands: {''.join(found[:1])}")
+
+
+def check_watcher(runs, path, living, other, what):
+    """Who may only read a log and watches it has the lines that its owner has."""
+    watches = [Command(runs, path, "watch", "--json", **one) for one in (other, {})]
+    time.sleep(BEGUN)
+    living.reply(f"event create {NODE} 1 more")
+    if runs.need(watches[0].process.poll() is None, f"{what}: watch ended with {watches[0].process.poll()}"):
+        lines = [watch.line() for watch in watches]
+        runs.need(lines[0] and lines[0] == lines[1], f"{what}: watch printed {lines[0]!r}, and to others {lines[1]!r}")
+    for watch in watches:
+        watch.end(interrupt=True)
+
+
+def readers(runs, data):
+    """A log that a user may only read, of nodes that nobody claimed, with a torn end, and of one that is alive."""
+    other = {"user": NOBODY, "group": NOBODY, "extra_groups": []} if can_be_nobody() else {}
+    if os.geteuid() == 0 and not other:
+        return
+
+    def places(data):
+        path, own = runs.file("readers", data), runs.file("owner", data)
+        path.chmod(0o444)
+        return path, own
+
+    check_readers(runs, lambda: places(data), other, "a log that may only be read")
+    check_readers(runs, lambda: places(data[:-TORN]), other, "a torn log that may only be read")
+    path, what = runs.file("readers"), "a log in use that may only be read"
+    living = Living(runs, path, NODE)
+    living.reply(f"event create {NODE} 0 lamps")
+    for name in (path, node_path(path, NODE)):
+        name.chmod(0o444)
+    if other:
+        check_readers(runs, lambda: (path, path), other, what)
+    check_watcher(runs, path, living, other, what)
+    ran = living.end()
+    runs.need((ran.status, ran.out, ran.err) == (0, [], ""), f"{what}: its user ended with {ran}")
 
 
 def refused_nodes(runs, data):
