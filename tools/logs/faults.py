@@ -425,3 +425,20 @@ def held_close(runs, _data):
     replayed = runs.replay(path.read_bytes(), what)
     if replayed:
         runs.need(not replayed[1].remains(), f"{what}: in the end there is {replayed[1].remains()}")
+
+
+def held_end(runs, _data):
+    """A process ends while the script holds the log: it tells that something stays, and that is given back later."""
+    path, what = runs.file("held-end"), "an end while the log is held"
+    living = Living(runs, path, NODE, wait=200)
+    living.reply(f"event create {NODE} 0 kept")
+    before = snapshot(path)
+    with open(path, "rb") as file:
+        fcntl.flock(file, fcntl.LOCK_EX)
+        ended = living.end()
+    fine = (ended.status, ended.out) == (FAULT, []) and ended.err.startswith("wulameron: ") and ended.err.endswith("\n")
+    runs.need(fine, f"{what}: it ended with {ended}")
+    check_unchanged(runs, path, before, what)
+    ran = runs.clean(path)
+    wanted = [f"node {NODE}: 1 releases, 3 removals"]
+    runs.need((ran.status, ran.out, ran.err) == (0, wanted, ""), f"{what}: clean replied {ran}, and not {wanted}")
