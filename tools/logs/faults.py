@@ -10,7 +10,7 @@ import time
 
 from logs.commands import BEGUN, Command, once
 from logs.form import FILE_HEADER_LENGTH, read_log
-from logs.runs import BUSY, FAULT, NO_CLEAN, NO_LOG, NO_PERMISSION, Living, at_once, front_before, fronts_of
+from logs.runs import BUSY, FAULT, NO_CLEAN, NO_LOG, NO_PERMISSION, Living, Ran, at_once, front_before, fronts_of
 from logs.runs import leave_node, listings_of, node_files, node_path, snapshot, telling_first
 
 # Where in an entry a cut or a change tells most: its parts' bounds.
@@ -19,6 +19,12 @@ MOST_CHANGES = 400
 # The node of the runs at logs that others have made, whose name stands in none of them.
 NODE = 77
 LINES = [f"event open {NODE} 0 absent", "list", f"event create {NODE} 1 fresh", "list"]
+# The commands that write what is wrong on the standard error, and words that tell nobody what that is.
+COMMANDS = (["run", "--node", "1"], ["hold", "--node", "1", "event", "create", "lamps"], ["list"], ["show", "lamps"])
+COMMANDS += (["nodes"], ["clean"], ["log"], ["watch"], ["check"])
+UNTOLD = ("uncategorized error", "entity not found")
+# A name that no file system has, and how much of a line is told.
+LONG_NAME, TOLD = "n" * 300, 60
 # A user who isn't root, to whom permissions mean something.
 NOBODY = 65534
 # The commands that only look at a log, but for `watch`; and how many bytes its last entry lacks where it is torn.
@@ -166,6 +172,34 @@ def refused_things(runs, data):
     for path, name in make_things(runs, data):
         before = snapshot(path)
         check_refused(runs, path, before, runs.run(path, NODE, LINES), [name], f"{path.parent.name}")
+
+
+def make_places(runs):
+    """Paths at which there can be no log, by what is wrong with them."""
+    folder = runs.file("places").parent
+    (folder / "file").write_bytes(b"")
+    (folder / "loop").symlink_to(folder / "loop")
+    return {
+        "a folder that isn't there": folder / "nothing/log",
+        "a file in place of a folder": folder / "file/log",
+        "a name that is too long": folder / LONG_NAME,
+        "a path that is too long": folder.joinpath(*[LONG_NAME[:200]] * 25, "log"),
+        "a loop of links": folder / "loop/log",
+    }
+
+
+def refused_places(runs, _data):
+    """Each command ends by a line in words of the program, whatever the system has to say of the path."""
+    for what, path in make_places(runs).items():
+        found = []
+        for words in COMMANDS:
+            ran = runs.ran([runs.program, *words, "--at", str(path)])
+            is_line = ran.err.startswith("wulameron: ") and ran.err.count("\n") == 1
+            is_told = ran.status == FAULT and is_line and not any(word in ran.err for word in UNTOLD)
+            # No node has a file of such a name.
+            if not is_told and (words, ran) != (["nodes"], Ran(0, [], "")):
+                found.append(f"{words[0]} ended with {ran.status} and {ran.err[-TOLD:]!r}")
+        runs.need(not found, f"{what}: {'; '.join(found)}")
 
 
 def can_be_nobody():
