@@ -3,5 +3,6 @@ pub mod Form
 pub mod FormLaws
 pub mod Reading
 pub mod Log
+pub mod CallLog
 pub mod Memory
 pub mod Errors

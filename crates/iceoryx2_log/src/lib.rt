@@ -10,8 +10,12 @@
 //! known (`WhereKnown`), of whether the handle holds the log (`held`), and of whether `next` has shown the entry that
 //! `accept` takes over (`shown`). A hold is granted only where the handle doesn't hold the log, and an append only where
 //! it does. `MemoryLog` keeps it, and its holds and appends are exact but for memory (`Holds`, `AppendsOne`).
+//!
+//! `CallLog` is any log held over all accesses of a call: the log inside stays held as long as the call has it
+//! (`IsSpanned`), and a call finds it busy with its first access or never (`SpansOn`).
 #![tactic(auto)]
 
+pub mod call_log;
 pub mod entry;
 pub mod form;
 pub mod log;

@@ -7,6 +7,7 @@ ghost use Rattle.iceoryx2_log.specs.Log.{first, is_shown};
 ghost use Rattle.iceoryx2_log.specs.declared.log.LogError.TheVariants.{OutOfMemory};
 ghost use Rattle.iceoryx2_log.specs.Memory.{accepted_where, is_listed, none_unread, with_batch};
 
+use crate::call_log::SpansCalls;
 use crate::entry::Entry;
 use crate::log::{Log, LogError};
 use std::alloc::{AllocError, Global};
@@ -403,4 +404,19 @@ impl Log for MemoryLog {
     fn put_off_compaction(&mut self)
         ensures { self.new ≡ self.old }
     {}
+}
+
+/// Nobody else holds it.
+impl SpansCalls for MemoryLog {
+    ghost in_call = { λ _. false };
+
+    fn begin_call(&mut self)
+        ensures { self.new ≡ self.old }
+    {}
+
+    fn end_call(&mut self)
+        ensures { self.new ≡ record self.old { held = false } }
+    {
+        self.held = false;
+    }
 }

@@ -1,0 +1,257 @@
+//! A log that a call of several accesses holds from its first access to its last.
+
+ghost use Rattle.std.specs.Prelude.{◌≡◌, Bool, false, true, IfOk, OnErr, OnOk, if◌then◌else◌};
+ghost use Rattle.iceoryx2_log.specs.CallLog.{IsSpanned, SpansOn, after_pause, begun_in, has_call};
+ghost use Rattle.iceoryx2_log.specs.declared.call_log.Span.TheVariants as span;
+ghost use Rattle.iceoryx2_log.specs.Log.{Accepts, Appends, Compacts, Grows, Rejoins, Shows, WhereKnown, is_shown};
+
+use crate::entry::Entry;
+use crate::log::{Log, LogError};
+
+/// A log that is held over all accesses of a call. Others wait meanwhile, so a call finds the log busy before its first
+/// access or not at all.
+pub trait SpansCalls: Log {
+    /// Whether a call has begun for which it may be held.
+    ghost in_call: { Self → Bool };
+
+    /// A call begins. The first of its holds takes the log, which stays held up to `end_call`, but for pauses. Where
+    /// that hold is refused, all others of the call are.
+    fn begin_call(&mut self)
+        ensures same { Self.contents self.new ≡ Self.contents self.old }
+        ensures held { Self.held self.new ≡ Self.held self.old };
+
+    /// The call ends, and the log is let go of.
+    fn end_call(&mut self)
+        ensures same { Self.contents self.new ≡ Self.contents self.old }
+        ensures free { Self.held self.new ≡ false }
+        ensures ended { in_call self.new ≡ false };
+}
+
+/// How the accesses of a call find a log.
+#[derive(Clone, Copy, Debug, PartialEq, Eq)]
+pub enum Span {
+    /// There is no call: each access holds the log by itself.
+    None,
+    /// No access of the call has asked for the log yet.
+    Begun,
+    /// The log is held for the call.
+    Held,
+    /// A pause has let go of the log. The next hold takes it again.
+    Paused,
+    /// The log wasn't to be had for the first access, for this reason, and isn't for another one of the call.
+    Refused(LogError),
+}
+
+/// A log, with the call that has begun. Each access asks it to hold and to let go as any log. Within a call the log
+/// inside is held once.
+#[derive(Drop)]
+pub struct CallLog<L> {
+    log: L,
+    span: Span,
+    is_held: bool,
+}
+
+impl<L> CallLog<L> {
+    /// A log that isn't held, of which no call has begun.
+    pub fn new(log: L) -> CallLog<L>
+        ensures { result ≡ record { log = log; span = span.None; is_held = false } }
+    {
+        CallLog {
+            log,
+            span: Span::None,
+            is_held: false,
+        }
+    }
+
+    /// The log inside.
+    pub fn log(&self) -> &L
+        ensures { result.now ≡ self.now.log }
+    {
+        &self.log
+    }
+}
+
+impl<L: Log> CallLog<L> {
+    // Holds the log inside, unless it is held for the call, or was refused to it.
+    fn take(&mut self) -> Result<(), LogError>
+        ensures span { SpansOn self.old.span result self.new.span }
+        ensures grows { OnOk result (WhereKnown Grows (L.contents self.old.log) (L.contents self.new.log)) }
+        ensures same { OnErr result (L.contents self.new.log ≡ L.contents self.old.log) }
+        ensures held { self.new.is_held ≡ self.old.is_held }
+        ensures keeps { IsSpanned L.held self.old → IsSpanned L.held self.new }
+    {
+        match self.span {
+            Span::None => self.log.hold(),
+            Span::Held => Ok(()),
+            Span::Refused(why) => Err(why),
+            Span::Begun => match self.log.hold() {
+                Ok(()) => {
+                    self.span = Span::Held;
+                    Ok(())
+                }
+                Err(why) => {
+                    self.span = Span::Refused(why);
+                    Err(why)
+                }
+            },
+            Span::Paused => {
+                self.log.hold()?;
+                self.span = Span::Held;
+                Ok(())
+            }
+        }
+    }
+}
+
+impl<L: Log> Log for CallLog<L> {
+    ghost contents = { λ s. L.contents s.log };
+
+    ghost held = { λ s. s.is_held };
+
+    ghost shown = { λ s. L.shown s.log };
+
+    /// Within a call that has the log it is always granted. `Failed` where an access holds it already.
+    fn hold(&mut self) -> Result<(), LogError>
+        ensures ok { OnOk result (WhereKnown Grows (L.contents self.old.log) (L.contents self.new.log)) }
+        ensures err { OnErr result (L.contents self.new.log ≡ L.contents self.old.log) }
+        ensures was_free { OnOk result (self.old.is_held ≡ false) }
+        ensures held { OnOk result (self.new.is_held ≡ true) }
+        ensures held_err { OnErr result (self.new.is_held ≡ self.old.is_held) }
+        ensures span { self.old.is_held ≡ false → SpansOn self.old.span result self.new.span }
+        ensures keeps { IsSpanned L.held self.old → IsSpanned L.held self.new }
+    {
+        if self.is_held {
+            return Err(LogError::Failed);
+        }
+        self.take()?;
+        self.is_held = true;
+        Ok(())
+    }
+
+    fn next(&mut self) -> Result<Option<Entry>, LogError>
+        ensures shows { IfOk result
+            (λ found. WhereKnown (Shows found) (L.contents self.old.log) (L.contents self.new.log)) }
+        ensures contents { L.contents self.new.log ≡ L.contents self.old.log }
+        ensures shown { L.shown self.new.log ≡ is_shown result }
+        ensures same { self.new ≡ record self.old { log = self.new.log } }
+        ensures keeps { IsSpanned L.held self.old → IsSpanned L.held self.new }
+    {
+        self.log.next()
+    }
+
+    fn accept(&mut self)
+        ensures shown { L.shown self.old.log ≡ true
+            → WhereKnown Accepts (L.contents self.old.log) (L.contents self.new.log) }
+        ensures none { L.shown self.old.log ≡ false → L.contents self.new.log ≡ L.contents self.old.log }
+        ensures once { L.shown self.new.log ≡ false }
+        ensures same { self.new ≡ record self.old { log = self.new.log } }
+        ensures keeps { IsSpanned L.held self.old → IsSpanned L.held self.new }
+    {
+        self.log.accept()
+    }
+
+    /// `Failed` where no access holds the log, also within a call that has it.
+    fn append(&mut self, entry: &Entry) -> Result<(), LogError>
+        ensures ok { OnOk result (WhereKnown (Appends entry.now) (L.contents self.old.log) (L.contents self.new.log)) }
+        ensures err { OnErr result (L.contents self.new.log ≡ L.contents self.old.log) }
+        ensures was_held { OnOk result (self.old.is_held ≡ true) }
+        ensures same { self.new ≡ record self.old { log = self.new.log } }
+        ensures keeps { IsSpanned L.held self.old → IsSpanned L.held self.new }
+    {
+        if !self.is_held {
+            return Err(LogError::Failed);
+        }
+        self.log.append(entry)
+    }
+
+    /// Within a call the log inside stays held.
+    fn let_go(&mut self)
+        ensures contents { L.contents self.new.log ≡ L.contents self.old.log }
+        ensures same { self.new ≡ record self.old { log = self.new.log; is_held = false } }
+        ensures keeps { IsSpanned L.held self.old → IsSpanned L.held self.new }
+    {
+        if self.span != Span::Held {
+            self.log.let_go();
+        }
+        self.is_held = false;
+    }
+
+    /// Lets go of the log inside, also within a call.
+    fn pause(&mut self, number: u64) -> bool
+        ensures contents { L.contents self.new.log ≡ L.contents self.old.log }
+        ensures held { self.new.is_held ≡ (if result then false else self.old.is_held) }
+        ensures span { self.new.span ≡ after_pause result self.old.span }
+        ensures keeps { IsSpanned L.held self.old → IsSpanned L.held self.new }
+    {
+        if !self.log.pause(number) {
+            return false;
+        }
+        if self.span == Span::Held {
+            self.span = Span::Paused;
+        }
+        self.is_held = false;
+        true
+    }
+
+    fn rejoin(&mut self) -> Result<u64, LogError>
+        ensures ok { IfOk result
+            (λ counter. WhereKnown (Rejoins counter) (L.contents self.old.log) (L.contents self.new.log)) }
+        ensures err { OnErr result (L.contents self.new.log ≡ L.contents self.old.log) }
+        ensures same { self.new ≡ record self.old { log = self.new.log } }
+        ensures keeps { IsSpanned L.held self.old → IsSpanned L.held self.new }
+    {
+        self.log.rejoin()
+    }
+
+    fn is_in_snapshot(&self) -> bool {
+        self.log.is_in_snapshot()
+    }
+
+    fn is_long(&self) -> bool {
+        self.log.is_long()
+    }
+
+    fn compact(&mut self, snapshot: &[Entry]) -> Result<(), LogError>
+        ensures ok { OnOk result
+            (WhereKnown (Compacts snapshot.now) (L.contents self.old.log) (L.contents self.new.log)) }
+        ensures err { OnErr result (L.contents self.new.log ≡ L.contents self.old.log) }
+        ensures same { self.new ≡ record self.old { log = self.new.log } }
+        ensures keeps { IsSpanned L.held self.old → IsSpanned L.held self.new }
+    {
+        self.log.compact(snapshot)
+    }
+
+    fn put_off_compaction(&mut self)
+        ensures contents { L.contents self.new.log ≡ L.contents self.old.log }
+        ensures same { self.new ≡ record self.old { log = self.new.log } }
+        ensures keeps { IsSpanned L.held self.old → IsSpanned L.held self.new }
+    {
+        self.log.put_off_compaction()
+    }
+}
+
+impl<L: Log> SpansCalls for CallLog<L> {
+    ghost in_call = { λ l. has_call l.span };
+
+    /// Nothing is asked of the log inside yet.
+    fn begin_call(&mut self)
+        ensures begun { self.new ≡ record self.old { span = begun_in self.old.span } }
+        ensures keeps { IsSpanned L.held self.old → IsSpanned L.held self.new }
+    {
+        if self.span == Span::None {
+            self.span = Span::Begun;
+        }
+    }
+
+    fn end_call(&mut self)
+        ensures contents { L.contents self.new.log ≡ L.contents self.old.log }
+        ensures same { self.new ≡ record self.old { log = self.new.log; span = span.None; is_held = false } }
+        ensures keeps { IsSpanned L.held self.old → IsSpanned L.held self.new }
+    {
+        if self.span == Span::Held {
+            self.log.let_go();
+        }
+        self.span = Span::None;
+        self.is_held = false;
+    }
+}
