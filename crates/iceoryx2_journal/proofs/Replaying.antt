@@ -21,7 +21,7 @@ use Rattle.iceoryx2_journal.specs.Taking as taking
 use Rattle.iceoryx2_journal.specs.Logged.{ReadsAtMost, IsLoggedPart, unwritten, written, declined}
 use Rattle.iceoryx2_journal.specs.Journal.{JournalState, TakesAll, Fails, Begins, barred, stopped, IsJournalAccess, fails, acts}
 use Rattle.iceoryx2_journal.specs.Laws.{ReplaysTheLog, IsWhatTheLogComesTo}
-use Rattle.iceoryx2_journal.specs.Replay.{ComesTo, nothing, fetches, happens, spends, Moves, Settles, Goes, stays, settles, strays, AmountsTo, Replays, Lives, begun, accesses, refreshes, cleans, adopts}
+use Rattle.iceoryx2_journal.specs.Replay.{ComesTo, nothing, fetches, happens, spends, Moves, Settles, Goes, stays, settles, strays, AmountsTo, Replays, Lives, begun, accesses, refreshes, cleans, adopts, spans}
 use Rattle.iceoryx2_journal.specs.Cleaning.{Adopts, CleansBy}
 use Rattle.iceoryx2_journal.specs.declared.cleaning.AdoptError.{AdoptError}
 use Rattle.iceoryx2_journal.specs.declared.cleaning.AdoptError.TheVariants as adopting
@@ -222,6 +222,9 @@ module _ {L : Type 0} {contents : L → Option Contents} where
   lives_replays going (refreshes has_begun so_far h) = let y = begins_goes has_begun going h in let x = lives_replays y.0 so_far in (x.0, replays_both x.1 y.1)
   lives_replays going (cleans i l so_far h) = let y = clean_goes h in let x = lives_replays y.0 so_far in (x.0, replays_both x.1 y.1)
   lives_replays going (adopts i r so_far h) = let y = adopt_goes i r going h in let x = lives_replays y.0 so_far in (x.0, replays_both x.1 y.1)
+  lives_replays going (spans so_far h) =
+      let x = lives_replays (sym (ap (λ (s : JournalState L). s.is_over) h.same) ∙ going) so_far in
+      (x.0, replays_both x.1 (replays_none (comes_same (ap (λ (s : JournalState L). s.world) h.same)) h.stays (ap (λ (s : JournalState L). s.is_lost) h.same)))
 
   run_replays : {a b : JournalState L} {word : List Letter} → b.is_over ≡ false → Run (IsJournalAccess contents) a word b → (a.is_over ≡ false) × Replays contents a b
   run_replays going done = (going, replays_none nothing refl refl)

@@ -64,6 +64,11 @@ module _ {L : Type 0} (contents : L → Option Contents) where
         → IsLoggedPart contents mid.world l new.world mid.log new.log → new.nodes ≡ mid.nodes
         → new.is_over ≡ mid.is_over → new.is_lost ≡ mid.is_lost → IsJournalAccess old l new
 
+  -- A call begins or ends: the log may be held for it, and all else stays.
+  pub record Spans (old new : JournalState L) : Type 0 where
+    pub same : new ≡ record old { log = new.log }
+    pub stays : contents new.log ≡ contents old.log
+
 module _ {L : Type 0} (held : L → Bool) where
   -- The log is held after exactly if it was held before.
   abbrev pub KeepsHold : JournalState L → JournalState L → Type 0

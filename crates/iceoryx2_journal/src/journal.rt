@@ -5,7 +5,7 @@ ghost use Rattle.iceoryx2_world.specs.World.{empty_world};
 ghost use Rattle.iceoryx2_world.specs.Interference.{Rely};
 ghost use Rattle.iceoryx2_world.specs.Listing.{Lists};
 ghost use Rattle.iceoryx2_journal.specs.Taking.{is_own};
-ghost use Rattle.iceoryx2_journal.specs.Journal.{Begins, KeepsHold};
+ghost use Rattle.iceoryx2_journal.specs.Journal.{Begins, KeepsHold, Spans};
 
 mod accesses;
 mod cleaning;
@@ -15,6 +15,7 @@ use crate::snapshot::compact;
 use crate::taking::{has, take_over};
 use iceoryx2_access::storage::{Existence, Service, Sha1Hasher};
 use iceoryx2_description::description::ServiceHash;
+use iceoryx2_log::call_log::SpansCalls;
 use iceoryx2_log::log::Log;
 use iceoryx2_table::table::stored::StoredWorld;
 use iceoryx2_world::listing;
@@ -244,6 +245,27 @@ impl<L: Log> Journal<L> {
     {
         let mine = self.has_node(node);
         self.begin_look(mine, hash)
+    }
+}
+
+impl<L: SpansCalls> Journal<L> {
+    /// A call of several accesses begins: up to `end_call` its first access takes the log for all of them, and where that
+    /// is refused all are. Without it each access takes the log by itself, and where others keep it in between, a call
+    /// may be refused after some of its accesses: what it leaves then stays until its node is cleaned.
+    pub fn begin_call(&mut self)
+        ensures spans { Spans L.contents self.old self.new }
+        ensures hold { KeepsHold L.held self.old self.new }
+    {
+        self.pen.log.begin_call();
+    }
+
+    /// The call ends, and others may have the log.
+    pub fn end_call(&mut self)
+        ensures spans { Spans L.contents self.old self.new }
+        ensures free { L.held self.new.log ≡ false }
+        ensures ended { L.in_call self.new.log ≡ false }
+    {
+        self.pen.log.end_call();
     }
 }
 

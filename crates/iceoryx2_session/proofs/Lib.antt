@@ -11,3 +11,4 @@ pub mod CommandLists
 pub mod Finishing
 pub mod Finished
 pub mod Promised
+pub mod Held

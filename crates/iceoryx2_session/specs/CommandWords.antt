@@ -3,6 +3,7 @@ use Rattle.std.specs.Prelude.{◌≡◌, List, [], Option, Result, Ok, Err}
 use Rattle.iceoryx2_access.specs.Letter.{Letter}
 use Rattle.iceoryx2_access.specs.Registered.{Registered}
 use Rattle.iceoryx2_access.specs.Run.{Run}
+use Rattle.iceoryx2_world.specs.World.{World}
 use Rattle.iceoryx2_rounds.specs.Answers.{map_err}
 use Rattle.iceoryx2_description.specs.declared.config.Config.{Config}
 use Rattle.iceoryx2_errors.specs.declared.error.CloseError.TheVariants.{NotHere}
@@ -17,8 +18,9 @@ use Rattle.iceoryx2_commands.specs.declared.command.Reply.{Reply}
 use Rattle.iceoryx2_commands.specs.declared.command.Reply.TheVariants as reply
 use Rattle.iceoryx2_session.specs.PatternCalls.{PatternCall}
 use Rattle.iceoryx2_session.specs.Patterns.{builder_call}
-use Rattle.iceoryx2_session.specs.Sessions.{SessionOver}
+use Rattle.iceoryx2_session.specs.Sessions.{SessionOver, AppliesBy, ClosesSlotsBy}
 use Rattle.iceoryx2_session.specs.Slots.{HoldsAt}
+use Rattle.iceoryx2_testing.specs.Trace.{TracedState}
 
 -- a word of this builder call, whose answer is carried by that one
 abbrev pub IsBuilderWord : PatternCall → Result Registered Refusal → List Letter → Type 0
@@ -46,3 +48,30 @@ pub record AppliesAlong {S : Type 0} (step : S → Letter → S → Type 0) (old
   pub word : List Letter
   pub is_word : IsCommandWord old.config old.slots c a word
   pub run : Run step old.table word new.table
+
+-- A call has begun or ended: the storage changes so, and all else stays.
+pub record SpansSession {S : Type 0} (spans : S → S → Type 0) (old new : SessionOver S) : Type 0 where
+  pub same : new ≡ record old { table = new.table }
+  pub changes : spans old.table new.table
+
+-- what is kept of the accesses stays where the storage inside changes so
+abbrev pub SpansTraced : {S : Type 0} → (spans : S → S → Type 0) → TracedState S → TracedState S → Type 0
+SpansTraced spans old new = (new ≡ record old { inner = new.inner }) × spans old.inner new.inner
+
+-- A command goes along a word of it between the begin and the end of a call.
+pub record AppliesHeld {S : Type 0} (spans : S → S → Type 0) (step : S → Letter → S → Type 0) (world : S → World)
+    (old : SessionOver S) (c : Command) (a : Reply) (new : SessionOver S) : Type 0 where
+  pub first : SessionOver S
+  pub last : SessionOver S
+  pub begins : SpansSession spans old first
+  pub applies : AppliesBy step world first c a last
+  pub ends : SpansSession spans last new
+
+-- The factories of these slots are closed in ascending order between the begin and the end of a call.
+pub record ClosesHeld {S : Type 0} (spans : S → S → Type 0) (step : S → Letter → S → Type 0) (old : S)
+    (slots : List (Option Registered)) (new : S) : Type 0 where
+  pub first : S
+  pub last : S
+  pub begins : spans old first
+  pub closes : ClosesSlotsBy step first slots last
+  pub ends : spans last new

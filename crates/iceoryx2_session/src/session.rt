@@ -1,6 +1,6 @@
 //! Commands over a storage that shows a world, or a table, with places for what they open.
 
-ghost use Rattle.std.specs.Prelude.{◌≡◌, ◌<◌, ℕ, IfOk, OnErr, OnOk, replicate, slice_set, None, []};
+ghost use Rattle.std.specs.Prelude.{◌≡◌, ◌<◌, ℕ, false, IfOk, OnErr, OnOk, replicate, slice_set, None, []};
 ghost use Rattle.iceoryx2_table.specs.Holdings.{IsHolding};
 ghost use Rattle.iceoryx2_session.specs.Patterns.{builder_call};
 ghost use Rattle.iceoryx2_session.specs.Sessions.{ClosesSlotBy, OpensBy};
@@ -103,7 +103,7 @@ impl<S: WorldStorage> Session<S> {
     ghost use Rattle.iceoryx2_world.specs.Interference.{Rely};
     ghost use Rattle.iceoryx2_commands.specs.declared.command.Command.TheVariants as command;
     ghost use Rattle.iceoryx2_session.specs.CommandLists.{CarriesOut};
-    ghost use Rattle.iceoryx2_session.specs.CommandWords.{AppliesAlong};
+    ghost use Rattle.iceoryx2_session.specs.CommandWords.{AppliesAlong, AppliesHeld, ClosesHeld, SpansSession};
     ghost use Rattle.iceoryx2_session.specs.Promised.{CallsAsPromisedInWorld};
     ghost use Rattle.iceoryx2_session.specs.SessionStates.{own_nodes, own_state, world_state};
     ghost use Rattle.iceoryx2_session.specs.Sessions.{ClosesSlotsBy, ClosesSlotsInWorld, AppliesBy, AppliesInWorld};
@@ -161,6 +161,50 @@ impl<S: WorldStorage> Session<S> {
             (world_state S.world self.old) command result (world_state S.world self.new) }
     {
         self.dispatch(command)
+    }
+
+    /// Carries out one command as `carry_out` does, as one call: whoever shares the storage waits from its first access to
+    /// its last. So over a log it is refused before its first access because others have the log, or not at all.
+    pub fn carry_out_held(&mut self, command: Command) -> Reply
+        ensures own { AppliesHeld S.spans S.step S.world (own_state self.old) command result (own_state self.new) }
+
+        // Nobody waits for it any more.
+        ensures ended { S.in_call (own_state self.new).table ≡ false }
+
+        // Which nodes are own stays as it was.
+        ensures nodes { own_nodes S.own self.new ≡ own_nodes S.own self.old }
+
+        // So it is over the world, whatever others do before an access of it, and whichever of these is refused.
+        ensures goes { AppliesInWorld (own_nodes S.own self.old)
+            (world_state S.world self.old) command result (world_state S.world self.new) }
+
+        // The world agrees afterwards where it agreed,
+        ensures agrees { Agrees (world_state S.world self.old).table → Agrees (world_state S.world self.new).table }
+
+        // and there the factories of all slots stand, each with a ticket of its own, if the caller is an own node.
+        ensures stands { let own = own_nodes S.own self.old in
+            Agrees (world_state S.world self.old).table → SlotsStandInWorld own (world_state S.world self.old)
+            → IsOfOwn own (own_state self.old).config command → SlotsStandInWorld own (world_state S.world self.new) }
+    {
+        self.begin_call();
+        let reply = self.carry_out(command);
+        self.end_call();
+        reply
+    }
+
+    /// A call begins: whoever shares the storage waits from its first access on, up to `end_call`.
+    pub fn begin_call(&mut self)
+        ensures { SpansSession S.spans (own_state self.old) (own_state self.new) }
+    {
+        self.storage.begin_call();
+    }
+
+    /// The call ends.
+    pub fn end_call(&mut self)
+        ensures spans { SpansSession S.spans (own_state self.old) (own_state self.new) }
+        ensures ended { S.in_call (own_state self.new).table ≡ false }
+    {
+        self.storage.end_call();
     }
 
     /// Carries out commands in order, and gives as many replies, each the one to its command. Room for
@@ -384,6 +428,26 @@ impl<S: WorldStorage> Session<S> {
             close_slot(&mut slots, slot, &mut storage);
         }
         slots.destroy();
+        storage
+    }
+
+    /// The same as one call: whoever shares the storage waits from the first access to the last.
+    pub fn close_all_held(self) -> S
+        ensures own { ClosesHeld S.spans S.step (own_state self).table (own_state self).slots result }
+
+        // Nobody waits for it any more.
+        ensures ended { S.in_call result ≡ false }
+
+        // Which nodes are own stays as it was.
+        ensures nodes { S.own result ≡ own_nodes S.own self }
+
+        // The world agrees afterwards where it agreed.
+        ensures agrees { Agrees (world_state S.world self).table → Agrees (S.world result) }
+    {
+        let mut session = self;
+        session.begin_call();
+        let mut storage = session.close_all();
+        storage.end_call();
         storage
     }
 }

@@ -1,6 +1,6 @@
 //! Storages that show a world: tables, journals, and those that trace one.
 
-ghost use Rattle.std.specs.Prelude.{◌≡◌, ℕ, Bool, IfOk, None, OnOk};
+ghost use Rattle.std.specs.Prelude.{◌≡◌, ℕ, Bool, false, IfOk, None, OnOk};
 ghost use Rattle.iceoryx2_access.specs.Letter.{Letter};
 ghost use Rattle.iceoryx2_world.specs.World.{World};
 ghost use Rattle.iceoryx2_world.specs.Listing.{Lists};
@@ -10,7 +10,7 @@ ghost use Rattle.iceoryx2_table.specs.Holdings.{IsHolding};
 use iceoryx2_access::storage::Storage;
 use iceoryx2_journal::cleaning::{CleanError, Cleaned};
 use iceoryx2_journal::journal::Journal;
-use iceoryx2_log::log::Log;
+use iceoryx2_log::call_log::SpansCalls;
 use iceoryx2_table::own_parts::OwnParts;
 use iceoryx2_table::table::TableOver;
 use iceoryx2_testing::traced::Traced;
@@ -41,6 +41,21 @@ pub trait WorldStorage: Storage {
         ensures same { own self.new ≡ own self.old }
         ensures gone { OnOk result (IsHolding (world self.new) node None) };
 
+    /// Whether a call has begun, for which others may have to wait.
+    ghost in_call: { Self → Bool };
+
+    /// What the begin and the end of a call change.
+    ghost spans: { Self → Self → Type 0 };
+
+    /// A call begins. Whoever shares the storage waits from its first access on, up to `end_call`. Makes no access.
+    fn begin_call(&mut self)
+        ensures { spans self.old self.new };
+
+    /// The call ends. Makes no access.
+    fn end_call(&mut self)
+        ensures spans { spans self.old self.new }
+        ensures ended { in_call self.new ≡ false };
+
     /// Each service of the world with a row or a segment, in the order of the hashes' bytes. Makes no access.
     /// `AllocError` where there was no memory for the list.
     fn list(&self) -> Result<Vec<Entry>, AllocError>
@@ -53,11 +68,16 @@ pub trait WorldStorage: Storage {
     /// That no access changes which nodes are its own.
     ghost keeps_own: { (old : Self) (letter : Letter) (new : Self)
         → Self.step old letter new → own new ≡ own old };
+
+    /// That the begin and the end of a call change neither the world nor which nodes are its own.
+    ghost keeps_world: { (old : Self) (new : Self)
+        → spans old new → (world new ≡ world old) × (own new ≡ own old) };
 }
 
 // Each node acts through the table itself, so it shows its world as it is, and each node is its own.
 impl<W: OwnParts> WorldStorage for TableOver<W> {
     ghost use Rattle.std.specs.Prelude.{refl};
+    ghost use Rattle.std.proofs.Common.{ap};
     ghost use Rattle.iceoryx2_world.specs.Interference.{everyone};
     ghost use Rattle.iceoryx2_world.proofs.Waiting.{table_access};
     ghost use Rattle.iceoryx2_world.proofs.agreement.Accesses.{unrefused};
@@ -71,6 +91,17 @@ impl<W: OwnParts> WorldStorage for TableOver<W> {
         (among_others everyone old.world letter new.world (table_access old new letter access)) };
 
     ghost keeps_own = { λ old letter new access. refl };
+
+    ghost in_call = { λ table. false };
+
+    ghost spans = { λ old new. new ≡ old };
+
+    ghost keeps_world = { λ old new same. (ap (λ table. table.world) same, refl) };
+
+    // Nobody else has it meanwhile.
+    fn begin_call(&mut self) {}
+
+    fn end_call(&mut self) {}
 
     #[tactic(auto, using(iceoryx2_world::proofs::agreement::Interference::rely_same))]
     fn refresh(&mut self) {}
@@ -86,8 +117,9 @@ impl<W: OwnParts> WorldStorage for TableOver<W> {
 }
 
 // A journal shows the world that it makes of its log. Its nodes are those that it was given.
-impl<L: Log> WorldStorage for Journal<L> {
+impl<L: SpansCalls> WorldStorage for Journal<L> {
     ghost use Rattle.std.proofs.Common.{ap};
+    ghost use Rattle.iceoryx2_journal.specs.Journal.{Spans};
     ghost use Rattle.iceoryx2_journal.specs.Taking.{is_own};
     ghost use Rattle.iceoryx2_journal.proofs.Runs.{access_under, access_nodes};
 
@@ -98,6 +130,20 @@ impl<L: Log> WorldStorage for Journal<L> {
     ghost accesses = { λ old letter new access. access_under access.0 };
 
     ghost keeps_own = { λ old letter new access. ap is_own (access_nodes access.0) };
+
+    ghost in_call = { λ journal. L.in_call journal.log };
+
+    ghost spans = { Spans L.contents };
+
+    ghost keeps_world = { λ old new s. (ap (λ j. j.world) s.same, ap (λ j. is_own j.nodes) s.same) };
+
+    fn begin_call(&mut self) {
+        Journal::begin_call(self)
+    }
+
+    fn end_call(&mut self) {
+        Journal::end_call(self)
+    }
 
     fn refresh(&mut self) {
         Journal::refresh(self)
@@ -114,6 +160,8 @@ impl<L: Log> WorldStorage for Journal<L> {
 
 // What is traced shows the world of the storage inside, with the nodes that are own there.
 impl<S: WorldStorage> WorldStorage for Traced<S> {
+    ghost use Rattle.iceoryx2_session.specs.CommandWords.{SpansTraced};
+
     ghost world = { λ traced. S.world traced.inner };
 
     ghost own = { λ traced. S.own traced.inner };
@@ -121,6 +169,20 @@ impl<S: WorldStorage> WorldStorage for Traced<S> {
     ghost accesses = { λ old letter new access. S.accesses old.inner letter new.inner access.inside };
 
     ghost keeps_own = { λ old letter new access. S.keeps_own old.inner letter new.inner access.inside };
+
+    ghost in_call = { λ traced. S.in_call traced.inner };
+
+    ghost spans = { SpansTraced S.spans };
+
+    ghost keeps_world = { λ old new s. S.keeps_world old.inner new.inner s.1 };
+
+    fn begin_call(&mut self) {
+        self.inner_mut().begin_call()
+    }
+
+    fn end_call(&mut self) {
+        self.inner_mut().end_call()
+    }
 
     fn refresh(&mut self) {
         self.inner_mut().refresh()

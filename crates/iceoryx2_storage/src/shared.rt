@@ -7,6 +7,7 @@ pub use iceoryx2_file_log::header::{Header, LogName, NAME_LENGTH};
 pub use iceoryx2_file_log::options::{FileLogOptions, Sharing};
 pub use iceoryx2_journal::cleaning::{AdoptError, CleanError, Cleaned};
 pub use iceoryx2_journal::journal::{Journal, Shared};
+pub use iceoryx2_log::call_log::{CallLog, SpansCalls};
 pub use iceoryx2_log::entry::{Deed, Entry, FormBytes};
 pub use iceoryx2_log::log::{Log, LogError};
 pub use iceoryx2_log::memory::{Batch, MemoryLog};
