@@ -20,7 +20,7 @@ use std::random::RandomSource;
 use std::rt::Files;
 use std::time::{Clock, Duration};
 
-/// For how many milliseconds a claim tries while another has the lock, who may only be looking.
+/// For how many milliseconds `claim` tries while another has the lock, who may only be looking.
 const PATIENCE_MILLIS: u64 = 50;
 
 /// The highest number that is given to who asks for a free one.
@@ -53,11 +53,11 @@ fn locked<R: Files<File = File> + Clock + RandomSource + AllocGlobal>(
     rt: &R,
     path: &str,
     sharing: Sharing,
+    patience: Duration,
 ) -> Result<File, FileFault>
     ensures { IfErr result (λ why. (why ≡ file.Busy) ⊎ IsOfFile why) }
 {
     let file = find_or_make_file(rt, path, sharing.mode())?;
-    let patience = Duration::from_millis(PATIENCE_MILLIS);
     lock(rt, &mut LockedFile::new(&file), patience)?;
     Ok(file)
 }
@@ -66,7 +66,7 @@ fn locked<R: Files<File = File> + Clock + RandomSource + AllocGlobal>(
 /// none, for this user or its group as `sharing` says, and stays for ever.
 ///
 /// - `NodeIsAlive`: another claim of it stood for 50 milliseconds, of this process or another. It comes too where a
-///   look at the node takes as long, since who looks was stopped.
+///   look at the node takes as long, since who looks was stopped, and where another cleans up for it so long.
 /// - `File(IsALink)`, `File(IsAFolder)`, `File(NotAFile)`: what has the path of the node's file is no file.
 /// - `File(NoPermission)`: the system doesn't permit to open the file, or to make it.
 /// - `File(DiskFull)`: there is no room to make it.
@@ -82,9 +82,25 @@ pub fn claim<R: Files<File = File> + Clock + RandomSource + AllocGlobal>(
     ensures ok { IfOk result (λ token. token.node ≡ node) }
     ensures err { IfErr result (λ error. IsClaimError node (token_of log_path.now node) error) }
 {
+    let patience = Duration::from_millis(PATIENCE_MILLIS);
+    claim_within(rt, log_path, node, sharing, patience)
+}
+
+/// The same, which tries so long while another has the node's file. So the node of a process that was killed is had as
+/// soon as whoever cleans up for it is done.
+pub fn claim_within<R: Files<File = File> + Clock + RandomSource + AllocGlobal>(
+    rt: &R,
+    log_path: &str,
+    node: u64,
+    sharing: Sharing,
+    patience: Duration,
+) -> Result<Token, MonitoringError>
+    ensures ok { IfOk result (λ token. token.node ≡ node) }
+    ensures err { IfErr result (λ error. IsClaimError node (token_of log_path.now node) error) }
+{
     match token_path(rt.alloc(), log_path, node) {
         Err(_) => Err(no_memory(rt.alloc())),
-        Ok(path) => match locked(rt, &path, sharing) {
+        Ok(path) => match locked(rt, &path, sharing, patience) {
             Ok(file) => Ok(Token { file, node }),
             Err(fault) => Err(MonitoringError::new(path, refusal(node, fault))),
         },
