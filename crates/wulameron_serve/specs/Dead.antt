@@ -23,11 +23,12 @@ use Rattle.iceoryx2_errors.specs.declared.error.request_response.RequestResponse
 use Rattle.iceoryx2_errors.specs.declared.error.request_response.RequestResponseOpenOrCreateError.{RequestResponseOpenOrCreateError}
 use Rattle.iceoryx2_errors.specs.declared.error.request_response.RequestResponseOpenOrCreateError.TheVariants as request_either
 
--- it may be in the service, have left it last, or be creating it
+-- it may be in the service, have left it last, be creating it, or have died between the removals of its two parts
 abbrev pub blocks_event_open : EventOpenError → Bool
 blocks_event_open event_opening.HangsInCreation = true
 blocks_event_open event_opening.ExceedsMaxNumberOfNodes = true
 blocks_event_open event_opening.IsMarkedForDestruction = true
+blocks_event_open event_opening.ServiceInCorruptedState = true
 blocks_event_open _ = false
 
 abbrev pub blocks_event_create : EventCreateError → Bool
@@ -40,11 +41,12 @@ blocks_event_open_or_create (event_either.EventOpenError e) = blocks_event_open 
 blocks_event_open_or_create (event_either.EventCreateError e) = blocks_event_create e
 blocks_event_open_or_create event_either.SystemInFlux = true
 
--- it may be in the service, have left it last, or be creating it
+-- it may be in the service, have left it last, be creating it, or have died between the removals of its two parts
 abbrev pub blocks_publish_subscribe_open : PublishSubscribeOpenError → Bool
 blocks_publish_subscribe_open subscribe_opening.HangsInCreation = true
 blocks_publish_subscribe_open subscribe_opening.ExceedsMaxNumberOfNodes = true
 blocks_publish_subscribe_open subscribe_opening.IsMarkedForDestruction = true
+blocks_publish_subscribe_open subscribe_opening.ServiceInCorruptedState = true
 blocks_publish_subscribe_open _ = false
 
 abbrev pub blocks_publish_subscribe_create : PublishSubscribeCreateError → Bool
@@ -58,11 +60,12 @@ blocks_publish_subscribe_open_or_create (subscribe_either.PublishSubscribeCreate
     blocks_publish_subscribe_create e
 blocks_publish_subscribe_open_or_create subscribe_either.SystemInFlux = true
 
--- it may be in the service, have left it last, or be creating it
+-- it may be in the service, have left it last, be creating it, or have died between the removals of its two parts
 abbrev pub blocks_request_response_open : RequestResponseOpenError → Bool
 blocks_request_response_open request_opening.HangsInCreation = true
 blocks_request_response_open request_opening.ExceedsMaxNumberOfNodes = true
 blocks_request_response_open request_opening.IsMarkedForDestruction = true
+blocks_request_response_open request_opening.ServiceInCorruptedState = true
 blocks_request_response_open _ = false
 
 abbrev pub blocks_request_response_create : RequestResponseCreateError → Bool

@@ -30,6 +30,7 @@ fn event_open_is_blocked(error: EventOpenError) -> bool
         EventOpenError::HangsInCreation => true,
         EventOpenError::ExceedsMaxNumberOfNodes => true,
         EventOpenError::IsMarkedForDestruction => true,
+        EventOpenError::ServiceInCorruptedState => true,
         _ => false,
     }
 }
@@ -64,6 +65,7 @@ fn publish_subscribe_open_is_blocked(error: PublishSubscribeOpenError) -> bool
         PublishSubscribeOpenError::HangsInCreation => true,
         PublishSubscribeOpenError::ExceedsMaxNumberOfNodes => true,
         PublishSubscribeOpenError::IsMarkedForDestruction => true,
+        PublishSubscribeOpenError::ServiceInCorruptedState => true,
         _ => false,
     }
 }
@@ -100,6 +102,7 @@ fn request_response_open_is_blocked(error: RequestResponseOpenError) -> bool
         RequestResponseOpenError::HangsInCreation => true,
         RequestResponseOpenError::ExceedsMaxNumberOfNodes => true,
         RequestResponseOpenError::IsMarkedForDestruction => true,
+        RequestResponseOpenError::ServiceInCorruptedState => true,
         _ => false,
     }
 }
@@ -128,8 +131,8 @@ fn request_response_open_or_create_is_blocked(error: RequestResponseOpenOrCreate
     }
 }
 
-/// Whether a dead node may be why a call is refused: it was creating the service, was the last one to leave it, or
-/// takes a place in it.
+/// Whether a dead node may be why a call is refused: it was creating the service, was the last one to leave it, takes a
+/// place in it, or has removed its segment and not yet its description.
 pub fn refusal_is_blocked(refusal: Refusal) -> bool
     ensures { result ≡ blocks refusal }
 {
