@@ -11,6 +11,7 @@ use iceoryx2_file_log::error::FileFault;
 use iceoryx2_file_log::file_log::FileLog;
 use iceoryx2_journal::cleaning::{CleanError, Cleaned};
 use iceoryx2_journal::journal::Journal;
+use iceoryx2_log::call_log::{CallLog, SpansCalls};
 use iceoryx2_monitoring::error::MonitoringError;
 use iceoryx2_monitoring::state::{list, state};
 use iceoryx2_table::table::stored::StoredWorld;
@@ -160,7 +161,15 @@ fn clean_found<F: Files<File = File> + Clock + RandomSource + AllocGlobal, W: Wr
                 cleans: true,
             };
             clean_log(
-                alloc, log, counter, place.at, &dead, nodes, asked.node, output, errors,
+                alloc,
+                CallLog::new(log),
+                counter,
+                place.at,
+                &dead,
+                nodes,
+                asked.node,
+                output,
+                errors,
             )
         }
         Err(error) => {
@@ -171,7 +180,7 @@ fn clean_found<F: Files<File = File> + Clock + RandomSource + AllocGlobal, W: Wr
 }
 
 /// Does so over a log whose counter begins so.
-fn clean_log<L: Refusing + Drop, D: DeadNodes, W: Write, E: Write>(
+fn clean_log<L: Refusing + SpansCalls + Drop, D: DeadNodes, W: Write, E: Write>(
     alloc: Global,
     log: L,
     counter: u64,
@@ -230,7 +239,7 @@ fn end_clean<E: Write>(
 /// the log or a node's file refuses for one of them it goes on with the others.
 ///
 /// `ServeError` where a line can't be written, or there is no memory for it.
-pub fn clean_nodes<L: Refusing, D: DeadNodes, W: Write>(
+pub fn clean_nodes<L: Refusing + SpansCalls, D: DeadNodes, W: Write>(
     alloc: Global,
     journal: &mut Journal<L>,
     dead: &D,
@@ -267,7 +276,11 @@ pub enum Found {
 }
 
 /// Gives back what a node has, where it is dead still.
-fn clean_node<L: Refusing, D: DeadNodes>(journal: &mut Journal<L>, dead: &D, node: u64) -> Found
+fn clean_node<L: Refusing + SpansCalls, D: DeadNodes>(
+    journal: &mut Journal<L>,
+    dead: &D,
+    node: u64,
+) -> Found
     ensures kept { Rely (is_own journal.old.nodes) journal.old.world journal.new.world }
     ensures nodes { journal.new.nodes ≡ journal.old.nodes }
 {
@@ -275,7 +288,9 @@ fn clean_node<L: Refusing, D: DeadNodes>(journal: &mut Journal<L>, dead: &D, nod
         Err(Unclaimed::IsAlive) => Found::Alive,
         Err(Unclaimed::Refused) => Found::Refused,
         Ok(claim) => {
+            journal.begin_call();
             let cleaned = journal.clean(node);
+            journal.end_call();
             drop(claim);
             found_by(cleaned)
         }

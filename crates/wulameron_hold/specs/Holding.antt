@@ -8,7 +8,8 @@ use Rattle.iceoryx2_commands.specs.declared.command.Refusal.{Refusal}
 use Rattle.iceoryx2_commands.specs.declared.command.Reply.{Reply}
 use Rattle.iceoryx2_commands.specs.declared.command.Reply.TheVariants as reply
 use Rattle.iceoryx2_monitoring.specs.declared.state.NodeStatus.{NodeStatus}
-use Rattle.iceoryx2_session.specs.Sessions.{SessionOver, AppliesBy}
+use Rattle.iceoryx2_session.specs.CommandWords.{AppliesHeld}
+use Rattle.iceoryx2_session.specs.Sessions.{SessionOver}
 use Rattle.iceoryx2_world.specs.World.{World}
 use Rattle.negotiate_serve.specs.declared.ending.ServeError.{ServeError}
 use Rattle.wulameron_arguments.specs.declared.asked.Hold.{Hold}
@@ -47,7 +48,8 @@ hold_status (Ok x) = 0
 hold_status (Err (hold.Refused r)) = 1
 hold_status (Err other) = 3
 
-module _ {S : Type 0} (step : S → Letter → S → Type 0) (world : S → World) (states : List NodeStatus) where
+module _ {S : Type 0} (spans : S → S → Type 0) (step : S → Letter → S → Type 0) (world : S → World)
+    (states : List NodeStatus) where
   -- What was agreed of the service of this number is printed, as the world is after the call. Then, whatever came
   -- before, the slot is closed.
   pub record HoldsMade (slot number : ℕ) (old new : SessionOver S) (result : Result (Unit {0}) HoldError)
@@ -57,16 +59,16 @@ module _ {S : Type 0} (step : S → Letter → S → Type 0) (world : S → Worl
         (IsUnshown (world old.table) (wanted.Numbered number)) shown before after
     pub waited : Result (Unit {0}) ServeError
     pub closed : Reply
-    pub closes : AppliesBy step world old (command.Close slot) closed new
+    pub closes : AppliesHeld spans step world old (command.Close slot) closed new
     pub ends : result ≡ end_of_hold shown waited closed
 
   -- A call is made, and its factory held and given back; or there is none, and nothing is written.
   pub data Holds (call : Call) (old new : SessionOver S) (result : Result (Unit {0}) HoldError)
       (before after : Option (List ℕ)) : Type 0 where
     held : (slot number : ℕ) (mid : SessionOver S)
-        → AppliesBy step world old (command.Call call) (reply.Opened slot number) mid
+        → AppliesHeld spans step world old (command.Call call) (reply.Opened slot number) mid
         → HoldsMade slot number mid new result before after → Holds call old new result before after
-    refused : (r : Refusal) → AppliesBy step world old (command.Call call) (reply.Refused r) new
+    refused : (r : Refusal) → AppliesHeld spans step world old (command.Call call) (reply.Refused r) new
         → result ≡ Err (hold.Refused r) → after ≡ before → Holds call old new result before after
-    not_made : (answer : Reply) → AppliesBy step world old (command.Call call) answer new
+    not_made : (answer : Reply) → AppliesHeld spans step world old (command.Call call) answer new
         → result ≡ Err hold.NotMade → after ≡ before → Holds call old new result before after

@@ -8,6 +8,7 @@ use iceoryx2_commands::command::{Call, Refusal, Reply};
 use iceoryx2_description::config::Config;
 use iceoryx2_file_log::file_log::FileLog;
 use iceoryx2_journal::journal::Journal;
+use iceoryx2_log::call_log::{CallLog, SpansCalls};
 use iceoryx2_monitoring::state::{self, NodeStatus};
 use iceoryx2_session::session::Session;
 use negotiate_explain::refusals::RefusalRow;
@@ -54,7 +55,7 @@ pub fn hold<
         return status;
     }
     let place = hold.place;
-    match claimed(&rt, place.at, hold.node, place.options.sharing) {
+    match claimed(&rt, place.at, hold.node, place.options) {
         Ok(token) => {
             let status = hold_as(&rt, token.node(), hold, input, output, errors);
             drop(token);
@@ -162,6 +163,7 @@ fn hold_open<
                 sharing: hold.place.options.sharing,
                 cleans: true,
             };
+            let log = CallLog::new(log);
             let journal = Journal::starting_at(alloc, log, Vec::new(alloc), counter);
             hold_over(
                 alloc, journal, path, node, call, &dead, &states, input, output, errors,
@@ -175,7 +177,7 @@ fn hold_open<
 }
 
 /// Does so over a journal that has no node yet. Before the call what dead nodes have is given back.
-fn hold_over<L: Refusing + Drop, D: DeadNodes, R: Read + Drop, W: Write, E: Write>(
+fn hold_over<L: Refusing + SpansCalls + Drop, D: DeadNodes, R: Read + Drop, W: Write, E: Write>(
     alloc: Global,
     journal: Journal<L>,
     path: &str,
@@ -202,7 +204,7 @@ fn hold_over<L: Refusing + Drop, D: DeadNodes, R: Read + Drop, W: Write, E: Writ
     let mut session = Session::over(Config::default(), journal);
     let _ = clean_dead(alloc, &mut session, dead);
     let held = hold_call(alloc, &mut session, call, states, &mut input, output);
-    let journal = session.close_all();
+    let journal = session.close_all_held();
     let _ = watch.look(&journal, errors);
     end_hold(alloc, path, journal.trouble(), held, errors)
 }

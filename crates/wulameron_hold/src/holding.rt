@@ -2,14 +2,14 @@
 
 ghost use Rattle.std.specs.Prelude.{◌≡◌, ◌++◌, IfOk, OnOk, codes, string_bytes};
 ghost use Rattle.std.specs.List.{flat_map};
-ghost use Rattle.iceoryx2_journal.specs.Journal.{IsAccessOver};
+ghost use Rattle.iceoryx2_journal.specs.Journal.{IsAccessOver, Spans};
 ghost use Rattle.iceoryx2_session.specs.SessionStates.{own_state};
 ghost use Rattle.wulameron_hold.specs.Holding.{Holds, HoldsMade, call_line as call_line_of, end_of_hold};
 ghost use Rattle.wulameron_hold.specs.Holding.{IsFactoryOf, hold_status};
 
 use iceoryx2_commands::command::{Call, Command, Refusal, Reply};
 use iceoryx2_journal::journal::Journal;
-use iceoryx2_log::log::Log;
+use iceoryx2_log::call_log::SpansCalls;
 use iceoryx2_monitoring::state::NodeStatus;
 use iceoryx2_session::session::Session;
 use negotiate_serve::ending::{DONE, FAULT, ServeError};
@@ -114,7 +114,7 @@ fn ending(
 
 /// Prints what was agreed of the service of this number, waits for the end of the input, and closes the slot, whatever
 /// came before.
-fn hold_made<L: Log, R: Read, W: Write>(
+fn hold_made<L: SpansCalls, R: Read, W: Write>(
     alloc: Global,
     session: &mut Session<Journal<L>>,
     slot: usize,
@@ -123,14 +123,14 @@ fn hold_made<L: Log, R: Read, W: Write>(
     input: &mut R,
     output: &mut W,
 ) -> Result<(), HoldError>
-    ensures { HoldsMade (IsAccessOver L.contents L.held) (λ j. j.world) states.now slot number
+    ensures { HoldsMade (Spans L.contents) (IsAccessOver L.contents L.held) (λ j. j.world) states.now slot number
         (own_state session.old) (own_state session.new) result (W.contents output.old) (W.contents output.new) }
 {
     let world = session.storage().world();
     let text = show_in(alloc, states, world, Wanted::Numbered(number), false);
     let shown = print(text, output);
     let waited = wait(shown, input);
-    let closed = session.carry_out(Command::Close { slot });
+    let closed = session.carry_out_held(Command::Close { slot });
     ending(shown, waited, &closed)
 }
 
@@ -149,7 +149,7 @@ fn factory_of(reply: Reply) -> Result<(usize, u64), HoldError>
 ///
 /// `Refused` and `NotMade` where there is no factory, and nothing is printed; `Unshown` and `Reading` where the output or
 /// the input refuses, and it is closed; `NotClosed` where the log doesn't release it.
-pub fn hold_call<L: Log, R: Read, W: Write>(
+pub fn hold_call<L: SpansCalls, R: Read, W: Write>(
     alloc: Global,
     session: &mut Session<Journal<L>>,
     call: Call,
@@ -157,10 +157,10 @@ pub fn hold_call<L: Log, R: Read, W: Write>(
     input: &mut R,
     output: &mut W,
 ) -> Result<(), HoldError>
-    ensures { Holds (IsAccessOver L.contents L.held) (λ j. j.world) states.now call
+    ensures { Holds (Spans L.contents) (IsAccessOver L.contents L.held) (λ j. j.world) states.now call
         (own_state session.old) (own_state session.new) result (W.contents output.old) (W.contents output.new) }
 {
-    let reply = session.carry_out(Command::Call(call));
+    let reply = session.carry_out_held(Command::Call(call));
     match factory_of(reply) {
         Ok((slot, number)) => hold_made(alloc, session, slot, number, states, input, output),
         Err(why) => Err(why),

@@ -55,13 +55,13 @@ module _ {M : Type 0} (Answers : Answering M) (m n : M) (line : List ℕ) (c : C
 -- ---- an input
 
 -- how the session of a node answers commands
-abbrev AnswersNamed : {S : Type 0} → (S → Letter → S → Type 0) → (S → World) → (S → ℕ → Bool) → (node : ℕ) → Answering (SessionOver S)
-AnswersNamed step world own node old line c text new = AnswersFor step world own node line old c text new
+abbrev AnswersNamed : {S : Type 0} → (S → S → Type 0) → (S → Letter → S → Type 0) → (S → World) → (S → ℕ → Bool) → (node : ℕ) → Answering (SessionOver S)
+AnswersNamed spans step world own node old line c text new = AnswersFor spans step world own node line old c text new
 
-module _ {S D : Type 0} (step : S → Letter → S → Type 0) (world : S → World) (own : S → ℕ → Bool) (trouble : S → Option Trouble) where
+module _ {S D : Type 0} (spans : S → S → Type 0) (step : S → Letter → S → Type 0) (world : S → World) (own : S → ℕ → Bool) (trouble : S → Option Trouble) where
   -- how the answerer answers commands, and lines
   abbrev AnswersNode : Answering (SharedAnswerer S D)
-  AnswersNode old line c text new = (new.node ≡ old.node) × AnswersFor step world own old.node line (own_state old.session) c text (own_state new.session)
+  AnswersNode old line c text new = (new.node ≡ old.node) × AnswersFor spans step world own old.node line (own_state old.session) c text (own_state new.session)
 
   abbrev pub AnswersOf : WrongLines → AnsweringLines (SharedAnswerer S D)
   AnswersOf w = AnswersWhileUsable (λ a. trouble (own_state a.session).table) (LinesBy w AnswersNode)
@@ -71,26 +71,26 @@ module _ {S D : Type 0} (step : S → Letter → S → Type 0) (world : S → Wo
     Shows a s = (a.node ≡ node) × (own_state a.session ≡ s)
 
     along : (a b : SharedAnswerer S D) (line : List ℕ) (c : Command) (text : List ℕ) (s : SessionOver S) → AnswersNode a line c text b → Shows a s
-        → (t : SessionOver S) × AnswersNamed step world own node s line c text t × Shows b t
+        → (t : SessionOver S) × AnswersNamed spans step world own node s line c text t × Shows b t
     along a b line c text s by shows = (
       own_state b.session,
-      subst (λ (r : SessionOver S). AnswersNamed step world own node r line c text (own_state b.session)) shows.1
-          (subst (λ (n : ℕ). AnswersFor step world own n line (own_state a.session) c text (own_state b.session)) shows.0 by.1),
+      subst (λ (r : SessionOver S). AnswersNamed spans step world own node r line c text (own_state b.session)) shows.1
+          (subst (λ (n : ℕ). AnswersFor spans step world own n line (own_state a.session) c text (own_state b.session)) shows.0 by.1),
       (by.0 ∙ shows.0, refl),
     )
 
     usable_along : (w : WrongLines) (a b : SharedAnswerer S D) (line text : List ℕ) (s : SessionOver S) → AnswersOf w a line text b → Shows a s
-        → (t : SessionOver S) × AnswersLinesFor step world own trouble node w s line text t × Shows b t
+        → (t : SessionOver S) × AnswersLinesFor spans step world own trouble node w s line text t × Shows b t
     usable_along w a b line text s by shows =
-        let next = lines_by_along AnswersNode (AnswersNamed step world own node) Shows along w a b line text s by.1 shows in
+        let next = lines_by_along AnswersNode (AnswersNamed spans step world own node) Shows along w a b line text s by.1 shows in
         (next.0, (subst (λ (r : SessionOver S). IsUsable (trouble r.table)) shows.1 by.0, next.1), next.2)
 
     -- what is written of an input is written of the session alone
     pub serves_for : (w : WrongLines) (a : SharedAnswerer S D) (ended : Result Ending ServeError) (input unread : List ℕ) (old new : Option (List ℕ)) → a.node ≡ node
         → ServesLines (AnswersOf w) a ended input unread old new
-        → ServesLines (AnswersLinesFor step world own trouble node w) (own_state a.session) ended input unread old new
+        → ServesLines (AnswersLinesFor spans step world own trouble node w) (own_state a.session) ended input unread old new
     serves_for w a ended input unread old new is by = record {
       output = by.output;
-      transcript = lines_transcript_along (AnswersOf w) (AnswersLinesFor step world own trouble node w) Shows (usable_along w) a (own_state a.session) input ended by.output unread by.transcript (is, refl);
+      transcript = lines_transcript_along (AnswersOf w) (AnswersLinesFor spans step world own trouble node w) Shows (usable_along w) a (own_state a.session) input ended by.output unread by.transcript (is, refl);
       written = by.written;
     }

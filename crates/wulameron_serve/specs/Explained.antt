@@ -6,7 +6,7 @@ use Rattle.iceoryx2_world.specs.World.{World}
 use Rattle.iceoryx2_world.specs.Across.{Agrees}
 use Rattle.iceoryx2_world.specs.Interference.{Rely}
 use Rattle.iceoryx2_file_log.specs.declared.error.FileFault.{FileFault}
-use Rattle.iceoryx2_journal.specs.Journal.{JournalState, IsAccessOver}
+use Rattle.iceoryx2_journal.specs.Journal.{JournalState, IsAccessOver, Spans}
 use Rattle.iceoryx2_journal.specs.Replay.{Lives}
 use Rattle.iceoryx2_journal.specs.Taking.{is_own}
 use Rattle.iceoryx2_log.specs.Log.{Contents}
@@ -14,7 +14,8 @@ use Rattle.iceoryx2_commands.specs.declared.command.Call.{Call}
 use Rattle.iceoryx2_commands.specs.declared.command.Command.{Command}
 use Rattle.iceoryx2_commands.specs.declared.command.Command.TheVariants as command
 use Rattle.iceoryx2_commands.specs.declared.command.Reply.{Reply}
-use Rattle.iceoryx2_session.specs.Sessions.{ClosesSlotsBy, shown_session}
+use Rattle.iceoryx2_session.specs.CommandWords.{ClosesHeld, SpansSession, SpansTraced}
+use Rattle.iceoryx2_session.specs.Sessions.{shown_session}
 use Rattle.negotiate_serve.specs.declared.ending.Ending.{Ending}
 use Rattle.negotiate_serve.specs.declared.ending.WrongLines.{WrongLines}
 use Rattle.negotiate_serve.specs.Served.{ServesLines}
@@ -32,11 +33,15 @@ use Rattle.wulameron_trouble.specs.Troubles.{trouble_of}
 
 -- The session carries a command out. The text has the reply, all accesses of the command's word, and of a refusal why
 -- it comes.
-pub record IsExplained {S : Type 0} (step : S → Letter → S → Type 0) (world : S → World) (old : TracedOver S)
-    (line : List ℕ) (c : Command) (text : List ℕ) (new : TracedOver S) : Type 0 where
+pub record IsExplained {S : Type 0} (spans : S → S → Type 0) (step : S → Letter → S → Type 0) (world : S → World)
+    (old : TracedOver S) (line : List ℕ) (c : Command) (text : List ℕ) (new : TracedOver S) : Type 0 where
   pub reply : Reply
-  pub goes : AppliesTracedBy step world old c reply new
-  pub is_text : IsTextInLines world line (slot_named c) reply (made_between old new) new.table text
+  pub first : TracedOver S
+  pub last : TracedOver S
+  pub begins : SpansSession (SpansTraced spans) old first
+  pub goes : AppliesTracedBy step world first c reply last
+  pub ends : SpansSession (SpansTraced spans) last new
+  pub is_text : IsTextInLines world line (slot_named c) reply (made_between first last) new.table text
 
 module _ {S : Type 0} (world : S → World) (own : S → ℕ → Bool) where
   -- The session shows another world, in which all stayed that its own nodes rely on. Its slots hold what they held, and
@@ -51,7 +56,8 @@ module _ {S : Type 0} (world : S → World) (own : S → ℕ → Bool) where
     pub stands : StandsFor (λ traced. world traced.inner) (λ traced. own traced.inner) node s
     pub room : HasItsRoom s.table
 
-module _ {S : Type 0} (step : S → Letter → S → Type 0) (world : S → World) (own : S → ℕ → Bool) (node : ℕ) where
+module _ {S : Type 0} (spans : S → S → Type 0) (step : S → Letter → S → Type 0) (world : S → World)
+    (own : S → ℕ → Bool) (node : ℕ) where
   -- How a command is answered for this node: not where it names another node, which has no explanation, by an explained
   -- reply to a call or a close, and by an explained listing after what others did was shown.
   pub data ExplainsFor (old : TracedOver S) (line : List ℕ) : Command → (text : List ℕ) → TracedOver S
@@ -59,13 +65,13 @@ module _ {S : Type 0} (step : S → Letter → S → Type 0) (world : S → Worl
     of_another : {call : Call} → call.node ≢ node
         → ExplainsFor old line (command.Call call) (not_ours call.node) old
     called : {call : Call} {text : List ℕ} {new : TracedOver S} → call.node ≡ node
-        → IsExplained step world old line (command.Call call) text new
+        → IsExplained spans step world old line (command.Call call) text new
         → ExplainsFor old line (command.Call call) text new
     closed : {slot : ℕ} {text : List ℕ} {new : TracedOver S}
-        → IsExplained step world old line (command.Close slot) text new
+        → IsExplained spans step world old line (command.Close slot) text new
         → ExplainsFor old line (command.Close slot) text new
     listed : {text : List ℕ} {new : TracedOver S} (mid : TracedOver S) → RefreshesInside world own old mid
-        → IsExplained step world mid line command.List text new → ExplainsFor old line command.List text new
+        → IsExplained spans step world mid line command.List text new → ExplainsFor old line command.List text new
 
   -- An answer is explained, and ends with an empty line.
   pub record ExplainsApart (old : TracedOver S) (line : List ℕ) (c : Command) (text : List ℕ) (new : TracedOver S)
@@ -80,16 +86,16 @@ module _ {S : Type 0} (step : S → Letter → S → Type 0) (world : S → Worl
     pub output : List ℕ
     pub explanation : List ℕ
     pub are : text ≡ output ++ explanation
-    pub answers : AnswersFor step world own node line (shown_session (λ traced. traced.inner) old) c output
+    pub answers : AnswersFor spans step world own node line (shown_session (λ traced. traced.inner) old) c output
         (shown_session (λ traced. traced.inner) new)
 
 -- ---- an input
 
-module _ {S : Type 0} (step : S → Letter → S → Type 0) (world : S → World) (own : S → ℕ → Bool)
-    (trouble : S → Option Trouble) (node : ℕ) (w : WrongLines) where
+module _ {S : Type 0} (spans : S → S → Type 0) (step : S → Letter → S → Type 0) (world : S → World)
+    (own : S → ℕ → Bool) (trouble : S → Option Trouble) (node : ℕ) (w : WrongLines) where
   -- how lines are answered for the node, as long as the log can be used
   abbrev pub ExplainsLinesFor : AnsweringLines (TracedOver S)
-  ExplainsLinesFor = AnswersWhileUsable (λ s. trouble s.table.inner) (LinesBy w (ExplainsApart step world own node))
+  ExplainsLinesFor = AnswersWhileUsable (λ s. trouble s.table.inner) (LinesBy w (ExplainsApart spans step world own node))
 
   -- The writer has taken what is written of an input for the node, from a session on that has done nothing yet, and
   -- nothing else. Then the factories of a session's slots are closed, and the world agrees.
@@ -99,7 +105,7 @@ module _ {S : Type 0} (step : S → Letter → S → Type 0) (world : S → Worl
     pub serves : ServesLines ExplainsLinesFor (fresh_session traced) (seen_as ended) input unread old new
     pub may_end : IfOk ended (MayEnd w)
     pub last : TracedOver S
-    pub closed : ClosesSlotsBy (IsTracedAccess step) last.table last.slots left
+    pub closed : ClosesHeld (SpansTraced spans) (IsTracedAccess step) last.table last.slots left
     pub agrees : Agrees (world left.inner)
 
   -- The same over a storage of which no access is kept yet; or it ends by the log or out of memory, and nothing is
@@ -118,7 +124,7 @@ pub record StartsLogExplained {L : Type 0} (contents : L → Option Contents) (h
   pub nodes : journal.nodes ≡ node ∷ []
   pub unread : List ℕ
   pub serves : ServesLines
-      (ExplainsLinesFor (IsAccessOver contents held) (λ j. j.world) (λ j. is_own j.nodes)
+      (ExplainsLinesFor (Spans contents) (IsAccessOver contents held) (λ j. j.world) (λ j. is_own j.nodes)
       (λ j. trouble_of j.is_over (refused j.log)) node w)
       (fresh_session (fresh_trace journal)) (seen_as ended) input unread old new
   pub may_end : IfOk ended (MayEnd w)

@@ -4,11 +4,12 @@ use Rattle.iceoryx2_access.specs.Letter.{Letter}
 use Rattle.iceoryx2_world.specs.World.{World, empty_world}
 use Rattle.iceoryx2_world.specs.Across.{Agrees}
 use Rattle.iceoryx2_file_log.specs.declared.error.FileFault.{FileFault}
-use Rattle.iceoryx2_journal.specs.Journal.{JournalState, IsAccessOver}
+use Rattle.iceoryx2_journal.specs.Journal.{JournalState, IsAccessOver, Spans}
 use Rattle.iceoryx2_journal.specs.Replay.{Lives}
 use Rattle.iceoryx2_journal.specs.Taking.{is_own}
 use Rattle.iceoryx2_log.specs.Log.{Contents}
-use Rattle.iceoryx2_session.specs.Sessions.{SessionOver, ClosesSlotsBy}
+use Rattle.iceoryx2_session.specs.CommandWords.{ClosesHeld}
+use Rattle.iceoryx2_session.specs.Sessions.{SessionOver}
 use Rattle.negotiate_serve.specs.declared.ending.Ending.{Ending}
 use Rattle.negotiate_serve.specs.declared.ending.WrongLines.{WrongLines}
 use Rattle.negotiate_serve.specs.Transcripts.{AnsweringLines, LinesBy, MayEnd}
@@ -19,12 +20,12 @@ use Rattle.wulameron_serve.specs.Shared.{AnswersFor, Refreshes, fresh_session}
 use Rattle.wulameron_trouble.specs.Troubles.{trouble_of}
 use Rattle.wulameron_trouble.specs.declared.trouble.Trouble.{Trouble}
 
-module _ {S : Type 0} (step : S → Letter → S → Type 0) (world : S → World) (own : S → ℕ → Bool)
-    (trouble : S → Option Trouble) (node : ℕ) (w : WrongLines) where
+module _ {S : Type 0} (spans : S → S → Type 0) (step : S → Letter → S → Type 0) (world : S → World)
+    (own : S → ℕ → Bool) (trouble : S → Option Trouble) (node : ℕ) (w : WrongLines) where
   -- how lines are answered for the node, as long as the log can be used
   abbrev pub AnswersLinesFor : AnsweringLines (SessionOver S)
   AnswersLinesFor = AnswersWhileUsable (λ s. trouble s.table)
-      (LinesBy w (λ old line c text new. AnswersFor step world own node line old c text new))
+      (LinesBy w (λ old line c text new. AnswersFor spans step world own node line old c text new))
 
   -- What dead nodes have is given back, from a session on that has done nothing yet. Then the writer has taken what is
   -- said of an input for the node, and nothing else. At last the factories of a session's slots are closed, and the
@@ -37,7 +38,7 @@ module _ {S : Type 0} (step : S → Letter → S → Type 0) (world : S → Worl
     pub serves : ServesLines AnswersLinesFor first (seen_as ended) input unread old new
     pub may_end : IfOk ended (MayEnd w)
     pub last : SessionOver S
-    pub closed : ClosesSlotsBy step last.table last.slots left
+    pub closed : ClosesHeld spans step last.table last.slots left
     pub agrees : Agrees (world left)
 
 -- a journal of no node that has taken nothing over yet
@@ -55,7 +56,7 @@ pub record StartsLog {L : Type 0} (contents : L → Option Contents) (held : L �
   pub cleaned : Refreshes (λ j. j.world) (λ j. is_own j.nodes) (fresh_session journal) first
   pub unread : List ℕ
   pub serves : ServesLines
-      (AnswersLinesFor (IsAccessOver contents held) (λ j. j.world) (λ j. is_own j.nodes)
+      (AnswersLinesFor (Spans contents) (IsAccessOver contents held) (λ j. j.world) (λ j. is_own j.nodes)
       (λ j. trouble_of j.is_over (refused j.log)) node w)
       first (seen_as ended) input unread old new
   pub may_end : IfOk ended (MayEnd w)

@@ -10,7 +10,8 @@ use Rattle.iceoryx2_commands.specs.declared.command.Command.{Command}
 use Rattle.iceoryx2_commands.specs.declared.command.Command.TheVariants as command
 use Rattle.iceoryx2_commands.specs.declared.command.Reply.{Reply}
 use Rattle.iceoryx2_commands.specs.Commands.{slot_count}
-use Rattle.iceoryx2_session.specs.Sessions.{SessionOver, AppliesBy, shown_session}
+use Rattle.iceoryx2_session.specs.Sessions.{SessionOver, shown_session}
+use Rattle.iceoryx2_session.specs.CommandWords.{AppliesHeld}
 use Rattle.iceoryx2_session.specs.StandingSlots.{SlotsStandInWorld}
 use Rattle.negotiate_lines.specs.declared.line.Line.TheVariants as parsed
 use Rattle.negotiate_lines.specs.Lines.{IsLine}
@@ -34,14 +35,14 @@ module _ {S : Type 0} (world : S → World) (own : S → ℕ → Bool) where
     pub stand : SlotsStandInWorld (own s.table) (shown_session world s)
     pub of_own : own s.table node ≡ true
 
-module _ {S : Type 0} (step : S → Letter → S → Type 0) (world : S → World) (own : S → ℕ → Bool) (node : ℕ)
-    (line : List ℕ) where
+module _ {S : Type 0} (spans : S → S → Type 0) (step : S → Letter → S → Type 0) (world : S → World)
+    (own : S → ℕ → Bool) (node : ℕ) (line : List ℕ) where
   -- What is written after a refusal of which a dead node may be the reason: what dead nodes have is given back, and the
   -- refusal stays, or the line's call is made once more.
   pub data AnswersAgain (refused : Reply) (slot : ℕ) (old new : SessionOver S) (text : List ℕ) : Type 0 where
     stays : Refreshes world own old new → IsReplyText slot refused text → AnswersAgain refused slot old new text
     again : (call : Call) (answer : Reply) (mid : SessionOver S) → IsLine line (parsed.Command (command.Call call))
-        → call.node ≡ node → Refreshes world own old mid → AppliesBy step world mid (command.Call call) answer new
+        → call.node ≡ node → Refreshes world own old mid → AppliesHeld spans step world mid (command.Call call) answer new
         → IsReplyText call.slot answer text → AnswersAgain refused slot old new text
 
   -- How a command is answered for this node: not where it names another node, by the session's reply to a call or a
@@ -50,16 +51,16 @@ module _ {S : Type 0} (step : S → Letter → S → Type 0) (world : S → Worl
   pub data AnswersFor (old : SessionOver S) : Command → (text : List ℕ) → SessionOver S → Type 0 where
     of_another : {call : Call} → call.node ≢ node → AnswersFor old (command.Call call) (not_ours call.node) old
     called : {call : Call} {text : List ℕ} {new : SessionOver S} (answer : Reply) → call.node ≡ node
-        → AppliesBy step world old (command.Call call) answer new → is_blocked answer ≡ false
+        → AppliesHeld spans step world old (command.Call call) answer new → is_blocked answer ≡ false
         → IsReplyText call.slot answer text → AnswersFor old (command.Call call) text new
     blocked : {call : Call} {text : List ℕ} {new : SessionOver S} (answer : Reply) (mid : SessionOver S)
-        → call.node ≡ node → AppliesBy step world old (command.Call call) answer mid → is_blocked answer ≡ true
+        → call.node ≡ node → AppliesHeld spans step world old (command.Call call) answer mid → is_blocked answer ≡ true
         → AnswersAgain answer call.slot mid new text → AnswersFor old (command.Call call) text new
     closed : {slot : ℕ} {text : List ℕ} {new : SessionOver S} (answer : Reply)
-        → AppliesBy step world old (command.Close slot) answer new → IsReplyText slot answer text
+        → AppliesHeld spans step world old (command.Close slot) answer new → IsReplyText slot answer text
         → AnswersFor old (command.Close slot) text new
     listed : {text : List ℕ} {new : SessionOver S} (answer : Reply) (mid : SessionOver S)
-        → Refreshes world own old mid → AppliesBy step world mid command.List answer new → IsReplyText 0 answer text
+        → Refreshes world own old mid → AppliesHeld spans step world mid command.List answer new → IsReplyText 0 answer text
         → AnswersFor old command.List text new
 
 -- a session over this storage that has done nothing yet

@@ -7,7 +7,7 @@ ghost use Rattle.iceoryx2_world.specs.World.{World};
 ghost use Rattle.iceoryx2_commands.specs.declared.command.Command as declared-command;
 ghost use Rattle.iceoryx2_commands.specs.declared.command.Command.TheVariants as command;
 ghost use Rattle.iceoryx2_session.specs.SessionStates.{own_state};
-ghost use Rattle.iceoryx2_session.specs.Sessions.{ClosesSlotsBy};
+ghost use Rattle.iceoryx2_session.specs.CommandWords.{ClosesHeld, SpansTraced};
 ghost use Rattle.iceoryx2_session.specs.StandingSlots.{IsOfOwn};
 ghost use Rattle.negotiate_lines.specs.declared.line.Line.TheVariants as parsed;
 ghost use Rattle.negotiate_lines.specs.Lines.{IsLine};
@@ -24,10 +24,10 @@ use crate::shared::refuse_node;
 use crate::starting::start;
 use explain_serve::explainer::with_room;
 use explain_serve::lines::describe_lines;
-use iceoryx2_access::storage::Storage;
 use iceoryx2_commands::command::{Call, Command};
 use iceoryx2_description::config::Config;
 use iceoryx2_journal::journal::Journal;
+use iceoryx2_log::call_log::SpansCalls;
 use iceoryx2_session::session::Session;
 use iceoryx2_session::world_storage::WorldStorage;
 use iceoryx2_testing::traced::Traced;
@@ -67,13 +67,13 @@ impl<S: WorldStorage> ExplainedAnswerer<S> {
 
     /// Closes all that is open, and gives the storage back.
     pub fn finish(self) -> Traced<S>
-        ensures closes { ClosesSlotsBy (IsTracedAccess S.step)
+        ensures closes { ClosesHeld (SpansTraced S.spans) (IsTracedAccess S.step)
             (own_state self.session).table (own_state self.session).slots result }
         ensures agrees { StandsExplained S.world S.own self.node (own_state self.session)
             → Agrees (S.world result.inner) }
     {
         let ExplainedAnswerer { node: _, session } = self;
-        session.close_all()
+        session.close_all_held()
     }
 
     /// Answers a call, unless it is in the name of another node.
@@ -81,7 +81,7 @@ impl<S: WorldStorage> ExplainedAnswerer<S> {
         requires { IsLine line.now (parsed.Command (command.Call call)) }
         ensures node { self.new.node ≡ self.old.node }
         ensures answered { StandsExplained S.world S.own self.old.node (own_state self.old.session)
-            → OnOk result (GrowsBy (λ output. ExplainsFor S.step S.world S.own self.old.node
+            → OnOk result (GrowsBy (λ output. ExplainsFor S.spans S.step S.world S.own self.old.node
             (own_state self.old.session) line.now (command.Call call) output (own_state self.new.session))
             (string_bytes text.old) (string_bytes text.new)) }
         ensures stands { StandsExplained S.world S.own self.old.node (own_state self.old.session)
@@ -99,7 +99,7 @@ impl<S: WorldStorage> ExplainedAnswerer<S> {
         requires { IsLine line.now (parsed.Command command.List) }
         ensures node { self.new.node ≡ self.old.node }
         ensures answered { StandsExplained S.world S.own self.old.node (own_state self.old.session)
-            → OnOk result (GrowsBy (λ output. ExplainsFor S.step S.world S.own self.old.node
+            → OnOk result (GrowsBy (λ output. ExplainsFor S.spans S.step S.world S.own self.old.node
             (own_state self.old.session) line.now command.List output (own_state self.new.session))
             (string_bytes text.old) (string_bytes text.new)) }
         ensures stands { StandsExplained S.world S.own self.old.node (own_state self.old.session)
@@ -114,7 +114,7 @@ impl<S: WorldStorage> ExplainedAnswerer<S> {
         requires { IsLine line.now (parsed.Command command) }
         ensures node { self.new.node ≡ self.old.node }
         ensures answered { StandsExplained S.world S.own self.old.node (own_state self.old.session)
-            → OnOk result (GrowsBy (λ output. ExplainsFor S.step S.world S.own self.old.node
+            → OnOk result (GrowsBy (λ output. ExplainsFor S.spans S.step S.world S.own self.old.node
             (own_state self.old.session) line.now command output (own_state self.new.session))
             (string_bytes text.old) (string_bytes text.new)) }
         ensures stands { StandsExplained S.world S.own self.old.node (own_state self.old.session)
@@ -137,7 +137,7 @@ impl<S: WorldStorage> ExplainedAnswerer<S> {
         requires { IsLine line.now (parsed.Command command) }
         ensures node { self.new.node ≡ self.old.node }
         ensures answered { HasItsRoom (own_state self.old.session).table
-            → OnOk result (GrowsBy (λ output. IsExplained S.step S.world
+            → OnOk result (GrowsBy (λ output. IsExplained S.spans S.step S.world
             (own_state self.old.session) line.now command output (own_state self.new.session))
             (string_bytes text.old) (string_bytes text.new)) }
         ensures stands { let own = S.own (own_state self.old.session).table.inner in
@@ -147,7 +147,7 @@ impl<S: WorldStorage> ExplainedAnswerer<S> {
     {
         let slot = slot_of(&command);
         let before = self.session.storage().total();
-        let reply = self.session.carry_out(command);
+        let reply = self.session.carry_out_held(command);
         let traced = self.session.storage();
         let made = traced.total().saturating_sub(before);
         describe_lines(line, slot, &reply, made, traced, text)
@@ -157,7 +157,7 @@ impl<S: WorldStorage> ExplainedAnswerer<S> {
 /// Each reply is followed by its explanation and an empty line. A call in the name of another node changes nothing, and
 /// a list shows the services of all processes.
 impl<S: WorldStorage> Answerer for ExplainedAnswerer<S> {
-    ghost answers = { λ old line c text new. (new.node ≡ old.node) × ExplainsApart S.step S.world S.own old.node
+    ghost answers = { λ old line c text new. (new.node ≡ old.node) × ExplainsApart S.spans S.step S.world S.own old.node
         (own_state old.session) line c text (own_state new.session) };
 
     ghost stands = { λ s. StandsExplained S.world S.own s.node (own_state s.session) };
@@ -174,11 +174,11 @@ impl<S: WorldStorage> Answerer for ExplainedAnswerer<S> {
 }
 
 /// What is true of each answer that is explained.
-pub fn explanations<S: Storage>()
+pub fn explanations<S: WorldStorage>()
     // It begins with what is written without explanations, over the storage inside.
     ensures { (world : S → World) (own : S → ℕ → Bool) (node : ℕ) (old new : TracedOver S)
-        (line text : List ℕ) (c : declared-command.Command) → ExplainsApart S.step world own node old line c text new
-        → BeginsAsAnswered S.step world own node old line c text new }
+        (line text : List ℕ) (c : declared-command.Command) → ExplainsApart S.spans S.step world own node old line c text new
+        → BeginsAsAnswered S.spans S.step world own node old line c text new }
 {}
 
 impl<S: WorldStorage + Troubled> Troubled for ExplainedAnswerer<S> {
@@ -208,7 +208,7 @@ pub fn serve_explained<S: WorldStorage + Troubled, R: Read + Drop, W: Write, E: 
     requires room { HasItsRoom traced }
     requires usable { IsUsable (S.trouble traced.inner) }
     ensures { (bytes : List ℕ) → R.remaining input ≡ Some bytes
-        → ServesExplained S.step S.world S.own S.trouble node wrong_lines traced result.0 result.1 bytes
+        → ServesExplained S.spans S.step S.world S.own S.trouble node wrong_lines traced result.0 result.1 bytes
         (W.contents output.old) (W.contents output.new) }
 {
     let mut answerer = ExplainedAnswerer::new(node, traced);
@@ -239,7 +239,7 @@ fn serve_traced<S: WorldStorage + Troubled + Drop, R: Read + Drop, W: Write, E: 
     requires of_own { S.own storage node ≡ true }
     requires usable { IsUsable (S.trouble storage) }
     ensures { (bytes : List ℕ) → R.remaining input ≡ Some bytes
-        → ServesTraced S.step S.world S.own S.trouble node wrong_lines storage result bytes
+        → ServesTraced S.spans S.step S.world S.own S.trouble node wrong_lines storage result bytes
         (W.contents output.old) (W.contents output.new) }
 {
     match with_room(alloc, storage) {
@@ -263,7 +263,7 @@ fn serve_traced<S: WorldStorage + Troubled + Drop, R: Read + Drop, W: Write, E: 
 
 /// Starts a node over a journal of the log whose counter begins so, and does so for it. What goes wrong at the log the
 /// writer of errors has by a line.
-pub fn serve_log_explained<L: Refusing + Drop, R: Read + Drop, W: Write, E: Write>(
+pub fn serve_log_explained<L: Refusing + SpansCalls + Drop, R: Read + Drop, W: Write, E: Write>(
     alloc: Global,
     log: L,
     counter: u64,

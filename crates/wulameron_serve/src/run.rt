@@ -10,10 +10,11 @@ use crate::lines::{Halt, serve_until};
 use crate::shared::SharedAnswerer;
 use crate::starting::start;
 use iceoryx2_file_log::file_log::FileLog;
-use iceoryx2_file_log::options::Sharing;
+use iceoryx2_file_log::options::FileLogOptions;
 use iceoryx2_journal::journal::Journal;
+use iceoryx2_log::call_log::{CallLog, SpansCalls};
 use iceoryx2_monitoring::error::MonitoringError;
-use iceoryx2_monitoring::token::{Token, claim, claim_free};
+use iceoryx2_monitoring::token::{Token, claim_free, claim_within};
 use iceoryx2_session::world_storage::WorldStorage;
 use negotiate_serve::ending::{Ending, FAULT, ServeError, WrongLines, status};
 use negotiate_serve::report::{report, report_failure};
@@ -40,7 +41,7 @@ pub fn run<
     E: Write,
 >(rt: F, run: &Run<'_>, input: R, output: &mut W, errors: &mut E) -> u8 {
     let alloc = rt.alloc();
-    match claimed(&rt, run.at, run.node, run.options.sharing) {
+    match claimed(&rt, run.at, run.node, run.options) {
         Ok(token) => {
             let node = token.node();
             if run.node.is_none() {
@@ -70,18 +71,19 @@ fn report_node<E: Write>(
     }
 }
 
-/// The claim of the node that is named beside the log of this path, or of the lowest that is free.
+/// The claim of the node that is named beside the log of this path, or of the lowest that is free. It tries for the one
+/// that is named as long as for the log.
 pub fn claimed<F: Files<File = File> + Clock + RandomSource + AllocGlobal>(
     rt: &F,
     path: &str,
     node: Option<u64>,
-    sharing: Sharing,
+    options: FileLogOptions,
 ) -> Result<Token, MonitoringError>
     ensures named { IfOk result (λ token. IfSome node (λ named. token.node ≡ named)) }
 {
     match node {
-        Some(node) => claim(rt, path, node, sharing),
-        None => claim_free(rt, path, sharing),
+        Some(node) => claim_within(rt, path, node, options.sharing, options.patience),
+        None => claim_free(rt, path, options.sharing),
     }
 }
 
@@ -100,6 +102,7 @@ fn run_as<
     match FileLog::open(rt, path, run.options) {
         Ok(log) => {
             let counter = log.header().counter;
+            let log = CallLog::new(log);
             let wrong = wrong_lines_of(run.is_strict, run.explains);
             let ended = if run.explains {
                 serve_log_explained(
@@ -161,7 +164,13 @@ fn report_end<E: Write>(ended: Result<Ending, Halt>, errors: &mut E) -> u8
 
 /// Starts a node over a journal of the log whose counter begins so, answers each line of an input for it, and closes
 /// all that is open then, whatever ended it. What goes wrong at the log the writer of errors has by a line.
-fn serve_log<L: Refusing + Drop, D: DeadNodes + Drop, R: Read + Drop, W: Write, E: Write>(
+fn serve_log<
+    L: Refusing + SpansCalls + Drop,
+    D: DeadNodes + Drop,
+    R: Read + Drop,
+    W: Write,
+    E: Write,
+>(
     alloc: Global,
     log: L,
     counter: u64,
@@ -229,7 +238,7 @@ pub fn serve<S: WorldStorage + Troubled, D: DeadNodes + Drop, R: Read + Drop, W:
     requires agrees { Agrees (S.world storage) }
     requires of_own { S.own storage node ≡ true }
     ensures { (bytes : List ℕ) → R.remaining input ≡ Some bytes
-        → Serves S.step S.world S.own S.trouble node wrong_lines storage result.0 result.1 bytes
+        → Serves S.spans S.step S.world S.own S.trouble node wrong_lines storage result.0 result.1 bytes
         (W.contents output.old) (W.contents output.new)
         ⊎ (is_not_started result.0 ≡ true) × (W.contents output.new ≡ W.contents output.old) }
 {

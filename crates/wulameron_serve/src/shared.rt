@@ -4,7 +4,7 @@ ghost use Rattle.std.specs.Prelude.{◌≡◌, IfSome, OnOk, string_bytes, true}
 ghost use Rattle.iceoryx2_world.specs.Across.{Agrees};
 ghost use Rattle.iceoryx2_commands.specs.declared.command.Command.TheVariants as command;
 ghost use Rattle.iceoryx2_session.specs.SessionStates.{own_state};
-ghost use Rattle.iceoryx2_session.specs.Sessions.{ClosesSlotsBy};
+ghost use Rattle.iceoryx2_session.specs.CommandWords.{ClosesHeld};
 ghost use Rattle.negotiate_serve.specs.Replies.{GrowsBy};
 ghost use Rattle.negotiate_lines.specs.declared.line.Line.TheVariants as parsed;
 ghost use Rattle.negotiate_lines.specs.Lines.{IsLine};
@@ -94,7 +94,7 @@ impl<S: WorldStorage, D: DeadNodes + Drop> SharedAnswerer<S, D> {
 
     /// Closes all that is open, and gives the storage back.
     pub fn finish(self) -> S
-        ensures closes { ClosesSlotsBy S.step (own_state self.session).table (own_state self.session).slots result }
+        ensures closes { ClosesHeld S.spans S.step (own_state self.session).table (own_state self.session).slots result }
         ensures agrees { StandsFor S.world S.own self.node (own_state self.session) → Agrees (S.world result) }
     {
         let SharedAnswerer {
@@ -102,14 +102,14 @@ impl<S: WorldStorage, D: DeadNodes + Drop> SharedAnswerer<S, D> {
             session,
             dead: _,
         } = self;
-        session.close_all()
+        session.close_all_held()
     }
 
     /// Answers a call, unless it is in the name of another node. Where a dead node may be why it is refused, what dead
     /// nodes have is given back, and then it is made once more.
     fn call(&mut self, line: &[u8], call: Call, text: &mut String) -> Result<(), AllocError>
         ensures node { self.new.node ≡ self.old.node }
-        ensures answered { OnOk result (GrowsBy (λ output. AnswersFor S.step S.world S.own self.old.node
+        ensures answered { OnOk result (GrowsBy (λ output. AnswersFor S.spans S.step S.world S.own self.old.node
             line.now (own_state self.old.session) (command.Call call) output (own_state self.new.session))
             (string_bytes text.old) (string_bytes text.new)) }
         ensures stands { StandsFor S.world S.own self.old.node (own_state self.old.session)
@@ -120,7 +120,7 @@ impl<S: WorldStorage, D: DeadNodes + Drop> SharedAnswerer<S, D> {
             return refuse_node(node, text);
         }
         let slot = call.slot;
-        let reply = self.session.carry_out(Command::Call(call));
+        let reply = self.session.carry_out_held(Command::Call(call));
         if is_blocked(&reply) {
             return self.call_again(line, &reply, slot, text);
         }
@@ -136,7 +136,7 @@ impl<S: WorldStorage, D: DeadNodes + Drop> SharedAnswerer<S, D> {
         text: &mut String,
     ) -> Result<(), AllocError>
         ensures node { self.new.node ≡ self.old.node }
-        ensures answered { OnOk result (GrowsBy (AnswersAgain S.step S.world S.own self.old.node line.now reply.now slot
+        ensures answered { OnOk result (GrowsBy (AnswersAgain S.spans S.step S.world S.own self.old.node line.now reply.now slot
             (own_state self.old.session) (own_state self.new.session))
             (string_bytes text.old) (string_bytes text.new)) }
         ensures stands { StandsFor S.world S.own self.old.node (own_state self.old.session)
@@ -150,33 +150,41 @@ impl<S: WorldStorage, D: DeadNodes + Drop> SharedAnswerer<S, D> {
             None => describe(reply, slot, text),
             Some(call) => {
                 let slot = call.slot;
-                describe(&self.session.carry_out(Command::Call(call)), slot, text)
+                describe(
+                    &self.session.carry_out_held(Command::Call(call)),
+                    slot,
+                    text,
+                )
             }
         }
     }
 
     fn close(&mut self, _line: &[u8], slot: usize, text: &mut String) -> Result<(), AllocError>
         ensures node { self.new.node ≡ self.old.node }
-        ensures answered { OnOk result (GrowsBy (λ output. AnswersFor S.step S.world S.own self.old.node
+        ensures answered { OnOk result (GrowsBy (λ output. AnswersFor S.spans S.step S.world S.own self.old.node
             _line.now (own_state self.old.session) (command.Close slot) output (own_state self.new.session))
             (string_bytes text.old) (string_bytes text.new)) }
         ensures stands { StandsFor S.world S.own self.old.node (own_state self.old.session)
             → StandsFor S.world S.own self.old.node (own_state self.new.session) }
     {
-        describe(&self.session.carry_out(Command::Close { slot }), slot, text)
+        describe(
+            &self.session.carry_out_held(Command::Close { slot }),
+            slot,
+            text,
+        )
     }
 
     /// Lists the services of all processes.
     fn list(&mut self, _line: &[u8], text: &mut String) -> Result<(), AllocError>
         ensures node { self.new.node ≡ self.old.node }
-        ensures answered { OnOk result (GrowsBy (λ output. AnswersFor S.step S.world S.own self.old.node
+        ensures answered { OnOk result (GrowsBy (λ output. AnswersFor S.spans S.step S.world S.own self.old.node
             _line.now (own_state self.old.session) command.List output (own_state self.new.session))
             (string_bytes text.old) (string_bytes text.new)) }
         ensures stands { StandsFor S.world S.own self.old.node (own_state self.old.session)
             → StandsFor S.world S.own self.old.node (own_state self.new.session) }
     {
         self.session.refresh();
-        describe(&self.session.carry_out(Command::List), 0, text)
+        describe(&self.session.carry_out_held(Command::List), 0, text)
     }
 }
 
@@ -217,7 +225,7 @@ fn named_call(named: Command, node: u64) -> Option<Call>
 /// A call in the name of another node changes nothing. A list shows the services of all processes.
 impl<S: WorldStorage, D: DeadNodes + Drop> Answerer for SharedAnswerer<S, D> {
     ghost answers = { λ old line c text new. (new.node ≡ old.node)
-        × AnswersFor S.step S.world S.own old.node line (own_state old.session) c text (own_state new.session) };
+        × AnswersFor S.spans S.step S.world S.own old.node line (own_state old.session) c text (own_state new.session) };
 
     ghost stands = { λ s. StandsFor S.world S.own s.node (own_state s.session) };
 

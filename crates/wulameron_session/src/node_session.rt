@@ -64,11 +64,13 @@ impl<S: WorldStorage + Troubled, N: SharedNodes + Drop> NodeSession<S, N> {
     /// Closes what each slot holds. False where the storage didn't release something.
     pub fn close_slots(&mut self) -> bool {
         let mut is_done = true;
+        self.state.session.begin_call();
         for slot in 0..SLOTS {
             if asking::close(&mut self.state, slot) == 21 {
                 is_done = false;
             }
         }
+        self.state.session.end_call();
         is_done
     }
 
@@ -135,10 +137,18 @@ impl<S: WorldStorage + Troubled, N: SharedNodes + Drop> NodeSession<S, N> {
     fn slot(&mut self, alloc: Global, call: &Frame) -> Frame {
         match call.numbers.code {
             10 => send(alloc, self.node, &mut self.state, &self.nodes, call),
-            11 => slots::close(alloc, &mut self.state, call),
+            11 => self.close(alloc, call),
             12 => slots::abandon(alloc, &mut self.state, call),
             _ => with_code(alloc, UNKNOWN_CALL),
         }
+    }
+
+    /// Closes what a slot holds, as one call.
+    fn close(&mut self, alloc: Global, call: &Frame) -> Frame {
+        self.state.session.begin_call();
+        let reply = slots::close(alloc, &mut self.state, call);
+        self.state.session.end_call();
+        reply
     }
 
     /// Answers the calls by which it is read what was agreed on.

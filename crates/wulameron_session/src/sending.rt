@@ -44,7 +44,7 @@ fn call_again<S: WorldStorage, D: DeadNodes>(
         return refused;
     }
     match copy {
-        Some(call) => session.carry_out(Command::Call(call)),
+        Some(call) => session.carry_out_held(Command::Call(call)),
         None => refused,
     }
 }
@@ -58,7 +58,7 @@ fn make<S: WorldStorage, D: DeadNodes>(
     call: Call,
 ) -> Reply {
     let copy = kept_copy(alloc, &call);
-    let reply = session.carry_out(Command::Call(call));
+    let reply = session.carry_out_held(Command::Call(call));
     if is_blocked(&reply) {
         return call_again(alloc, session, dead, reply, copy);
     }

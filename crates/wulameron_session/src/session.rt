@@ -6,6 +6,7 @@ use crate::serving::{Stop, serve, write_frame};
 use crate::texts::{of_last_trouble, of_monitoring, of_trouble};
 use iceoryx2_file_log::file_log::FileLog;
 use iceoryx2_journal::journal::Journal;
+use iceoryx2_log::call_log::{CallLog, SpansCalls};
 use iceoryx2_session::world_storage::WorldStorage;
 use negotiate_serve::ending::{DONE, FAULT};
 use std::alloc::Global;
@@ -35,7 +36,7 @@ pub fn session<
 >(rt: F, asked: &Session<'_>, input: R, output: &mut W) -> u8 {
     let alloc = rt.alloc();
     let place = asked.place;
-    match claimed(&rt, place.at, asked.node, place.options.sharing) {
+    match claimed(&rt, place.at, asked.node, place.options) {
         Ok(token) => {
             let status = session_as(&rt, token.node(), asked, input, output);
             drop(token);
@@ -67,6 +68,7 @@ fn session_as<F: Files<File = File> + Clock + RandomSource + AllocGlobal, R: Rea
     match FileLog::open(rt, path, place.options) {
         Ok(log) => {
             let counter = log.header().counter;
+            let log = CallLog::new(log);
             let nodes = LogNodes {
                 files: NodeFiles {
                     rt,
@@ -86,7 +88,7 @@ fn session_as<F: Files<File = File> + Clock + RandomSource + AllocGlobal, R: Rea
 }
 
 /// Does so over a log whose counter begins so.
-fn serve_log<L: Refusing + Drop, N: SharedNodes + Drop, R: Read + Drop, W: Write>(
+fn serve_log<L: Refusing + SpansCalls + Drop, N: SharedNodes + Drop, R: Read + Drop, W: Write>(
     alloc: Global,
     log: L,
     counter: u64,

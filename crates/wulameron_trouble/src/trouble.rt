@@ -10,6 +10,7 @@ ghost use Rattle.iceoryx2_monitoring.specs.Errors.{fault_text as claim_text};
 use iceoryx2_file_log::error::FileFault;
 use iceoryx2_file_log::file_log::FileLog;
 use iceoryx2_journal::journal::Journal;
+use iceoryx2_log::call_log::CallLog;
 use iceoryx2_log::log::Log;
 use iceoryx2_monitoring::error::MonitoringError;
 use negotiate_lines::escape::escaped_text;
@@ -156,6 +157,14 @@ impl<R: Files<File = File> + Clock + AllocGlobal> Refusing for FileLog<R> {
 
     fn refused(&self) -> Option<FileFault> {
         concern(self.fault())
+    }
+}
+
+impl<L: Refusing> Refusing for CallLog<L> {
+    ghost refused = { λ l. L.refused l.log };
+
+    fn refused(&self) -> Option<FileFault> {
+        self.log().refused()
     }
 }
 

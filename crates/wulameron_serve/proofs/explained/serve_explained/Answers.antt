@@ -21,7 +21,7 @@ returns g c = λ bytes known.
     let served = c.serve_until-ended.ensures.serves bytes known in
     record {
       unread = served.0;
-      serves = serves_explained g.S.Storage.step g.S.WorldStorage.world g.S.WorldStorage.own g.S.Troubled.trouble c.args.node c.args.wrong_lines c.new-answerer.result c.args.traced
+      serves = serves_explained g.S.WorldStorage.spans g.S.Storage.step g.S.WorldStorage.world g.S.WorldStorage.own g.S.Troubled.trouble c.args.node c.args.wrong_lines c.new-answerer.result c.args.traced
           (seen_as c.serve_until-ended.result) bytes served.0 (g.W.Write.contents c.args.output.now) (g.W.Write.contents c.serve_until-ended.new.output)
           made.node made.session served.1;
       may_end = c.serve_until-ended.ensures.may_end;

@@ -27,7 +27,7 @@ pub returns-in-Ok : goal.returns-in-Ok
 returns-in-Ok g c = λ bytes known.
     inl (
       c.serve_explained-ended.result.1,
-      subst (λ (t : TracedState g.row.S.Denot). ServesExplained g.S.Storage.step g.S.WorldStorage.world g.S.WorldStorage.own g.S.Troubled.trouble c.args.node c.args.wrong_lines t
+      subst (λ (t : TracedState g.row.S.Denot). ServesExplained g.S.WorldStorage.spans g.S.Storage.step g.S.WorldStorage.world g.S.WorldStorage.own g.S.Troubled.trouble c.args.node c.args.wrong_lines t
           c.serve_explained-ended.result.0 c.serve_explained-ended.result.1 bytes (g.W.Write.contents c.args.output.now) (g.W.Write.contents c.serve_explained-ended.new.output))
           c.in-Ok.ensures (c.serve_explained-ended.ensures bytes known),
     )

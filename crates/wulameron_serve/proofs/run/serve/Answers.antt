@@ -16,7 +16,7 @@ returns g c = λ bytes known.
       first = own_state c.clean.new.self.session;
       cleaned = subst (λ (s : SessionOver g.row.S.Denot). Refreshes W O s (own_state c.clean.new.self.session)) made.session c.clean.ensures.refreshes;
       unread = served.0;
-      serves = serves_for g.S.Storage.step W O g.S.Troubled.trouble c.args.node c.args.wrong_lines c.clean.new.self (seen_as c.serve_until-ended.result) bytes served.0
+      serves = serves_for g.S.WorldStorage.spans g.S.Storage.step W O g.S.Troubled.trouble c.args.node c.args.wrong_lines c.clean.new.self (seen_as c.serve_until-ended.result) bytes served.0
           (g.W.Write.contents c.args.output.now) (g.W.Write.contents c.serve_until-ended.new.output) (c.clean.ensures.node ∙ made.node) served.1;
       may_end = c.serve_until-ended.ensures.may_end;
       last = own_state c.serve_until-ended.new.answerer.session;

@@ -10,7 +10,7 @@ pub returns-then-node-self-clause-answered : goal.returns-then-node-self-clause-
 returns-then-node-self-clause-answered g c = λ before.
     let another : c.args.call.node ≡ c.args.self.now.node → ⊥ = λ e. absurd (grind (arith, c.if-node-self.true, e)) in
     let old = own_state c.args.self.now.session in
-    let Answers = ExplainsFor g.S.Storage.step g.S.WorldStorage.world g.S.WorldStorage.own c.args.self.now.node old c.args.line.now (command.Call c.args.call) in
+    let Answers = ExplainsFor g.S.WorldStorage.spans g.S.Storage.step g.S.WorldStorage.world g.S.WorldStorage.own c.args.self.now.node old c.args.line.now (command.Call c.args.call) in
     grows_as (λ output. output ≡ not_ours c.args.call.node) (λ output. Answers output old)
     (λ output is. subst (λ text. Answers text old) (sym is) (of_another another))
     c.refuse_node.result (string_bytes c.args.text.now) (string_bytes c.refuse_node.new.text) c.refuse_node.ensures
@@ -20,8 +20,8 @@ returns-clause-answered g c = λ before.
     let same : c.args.call.node ≡ c.args.self.now.node = grind (arith, c.if-node-self.false) in
     let old = own_state c.args.self.now.session in
     let new = own_state c.explain.new.self.session in
-    grows_as (λ output. IsExplained g.S.Storage.step g.S.WorldStorage.world old c.args.line.now (command.Call c.args.call) output new)
-    (λ output. ExplainsFor g.S.Storage.step g.S.WorldStorage.world g.S.WorldStorage.own c.args.self.now.node old c.args.line.now (command.Call c.args.call) output new)
+    grows_as (λ output. IsExplained g.S.WorldStorage.spans g.S.Storage.step g.S.WorldStorage.world old c.args.line.now (command.Call c.args.call) output new)
+    (λ output. ExplainsFor g.S.WorldStorage.spans g.S.Storage.step g.S.WorldStorage.world g.S.WorldStorage.own c.args.self.now.node old c.args.line.now (command.Call c.args.call) output new)
     (λ output is. called same is)
     c.explain.result (string_bytes c.args.text.now) (string_bytes c.explain.new.text) (c.explain.ensures.answered before.room)
 

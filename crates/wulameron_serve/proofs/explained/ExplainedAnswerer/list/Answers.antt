@@ -13,8 +13,8 @@ returns-clause-answered g c = λ before.
     let new = own_state c.explain.new.self.session in
     let done = c.refresh_inside.ensures in
     let shown : RefreshesInside g.S.WorldStorage.world g.S.WorldStorage.own old mid = record { same = done.same; nodes = done.nodes; kept = done.kept } in
-    grows_as (λ output. IsExplained g.S.Storage.step g.S.WorldStorage.world mid c.args.line.now command.List output new)
-    (λ output. ExplainsFor g.S.Storage.step g.S.WorldStorage.world g.S.WorldStorage.own c.args.self.now.node old c.args.line.now command.List output new)
+    grows_as (λ output. IsExplained g.S.WorldStorage.spans g.S.Storage.step g.S.WorldStorage.world mid c.args.line.now command.List output new)
+    (λ output. ExplainsFor g.S.WorldStorage.spans g.S.Storage.step g.S.WorldStorage.world g.S.WorldStorage.own c.args.self.now.node old c.args.line.now command.List output new)
     (λ output is. listed mid shown is)
     c.explain.result (string_bytes c.args.text.now) (string_bytes c.explain.new.text)
     (c.explain.ensures.answered (room_refreshed g.S.WorldStorage.world g.S.WorldStorage.own old mid shown before.room))

@@ -8,11 +8,11 @@ use Rattle.wulameron_serve.proofs.shared.SharedAnswerer.list.Goals as goal
 
 pub returns-clause-answered : goal.returns-clause-answered
 returns-clause-answered g c =
-    grows_as (IsReplyText 0 c.carry_out.result)
-    (λ output. AnswersFor g.S.Storage.step g.S.WorldStorage.world g.S.WorldStorage.own c.args.self.now.node c.args._line.now (own_state c.args.self.now.session) command.List output (own_state c.carry_out.new.self))
-    (λ output is_text. listed c.carry_out.result (own_state c.refresh.new.self)
+    grows_as (IsReplyText 0 c.carry_out_held.result)
+    (λ output. AnswersFor g.S.WorldStorage.spans g.S.Storage.step g.S.WorldStorage.world g.S.WorldStorage.own c.args.self.now.node c.args._line.now (own_state c.args.self.now.session) command.List output (own_state c.carry_out_held.new.self))
+    (λ output is_text. listed c.carry_out_held.result (own_state c.refresh.new.self)
     (record { slots = c.refresh.ensures.slots; nodes = c.refresh.ensures.nodes; kept = c.refresh.ensures.kept })
-    c.carry_out.ensures.own is_text)
+    c.carry_out_held.ensures.own is_text)
     c.describe.result (string_bytes c.args.text.now) (string_bytes c.describe.new.text) c.describe.ensures
 
 pub returns-clause-stands : goal.returns-clause-stands
@@ -20,5 +20,5 @@ returns-clause-stands g c = λ before.
     let agrees = (c.refresh.ensures.kept before.agrees).agrees in
     let shown = stands_after g.S.WorldStorage.world g.S.WorldStorage.own c.args.self.now.node (own_state c.args.self.now.session) (own_state c.refresh.new.self)
     c.refresh.ensures.nodes agrees (c.refresh.ensures.stands before.agrees before.stand) before in
-    stands_after g.S.WorldStorage.world g.S.WorldStorage.own c.args.self.now.node (own_state c.refresh.new.self) (own_state c.carry_out.new.self)
-    c.carry_out.ensures.nodes (c.carry_out.ensures.agrees agrees) (c.carry_out.ensures.stands agrees shown.stand tt) shown
+    stands_after g.S.WorldStorage.world g.S.WorldStorage.own c.args.self.now.node (own_state c.refresh.new.self) (own_state c.carry_out_held.new.self)
+    c.carry_out_held.ensures.nodes (c.carry_out_held.ensures.agrees agrees) (c.carry_out_held.ensures.stands agrees shown.stand tt) shown
