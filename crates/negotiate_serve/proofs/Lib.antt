@@ -5,4 +5,5 @@ pub mod Simulated
 pub mod ServiceLines
 pub mod Turns
 pub mod Written
+pub mod Reporting
 pub mod Refusing

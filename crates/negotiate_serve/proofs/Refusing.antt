@@ -10,14 +10,14 @@ use Rattle.negotiate_serve.specs.declared.ending.WrongLines.{WrongLines}
 use Rattle.negotiate_serve.specs.declared.ending.WrongLines.TheVariants as wrong_lines
 use Rattle.negotiate_serve.specs.Replies.{GrowsBy}
 use Rattle.negotiate_serve.specs.Served.{IsAnswerTo, IsAnswerToWrong, GrowsByLine}
-use Rattle.negotiate_serve.specs.Transcripts.{Answering, AnswersLineBy, AnswersEachBy, LinesBy, IsReplyToWrong, refused}
+use Rattle.negotiate_serve.specs.Transcripts.{Answering, AnswersLineBy, AnswersEachBy, LinesBy, IsErrorReply, IsReplyToWrong, refused}
 
 module _ (k : ℕ) (x : Wrong) (old new : List ℕ) where
   module _ {M : Type 0} (Answers : Answering M) (m : M) (bytes : List ℕ) (is : IsLine bytes (line.NotACommand x)) where
     answers_each : (end : List ℕ) (goes_on : Bool) → GrowsBy (λ output. (goes_on ≡ true) × IsReplyToWrong end x output) old new
         → GrowsByLine (AnswersEachBy end Answers) goes_on m k bytes old new m
     answers_each end goes_on grows =
-        let reply = record { wrong = x; no_command = is; is_reply = grows.1.1 } in
+        let reply : IsErrorReply end bytes grows.0 = record { wrong = x; no_command = is; is_reply = grows.1.1 } in
         record { output = grows.0; is_answer = subst (λ (b : Bool). IsAnswerTo (AnswersEachBy end Answers) b m k bytes grows.0 m) (sym grows.1.0) (refused reply); grown = grows.2 }
 
     answers_wrong : (w : WrongLines) (goes_on : Bool) → GrowsBy (IsAnswerToWrong w goes_on k x) old new → GrowsByLine (LinesBy w Answers) goes_on m k bytes old new m

@@ -26,9 +26,10 @@ IsReportOf program k (line.NotACommand w) text =
 IsReportOf program k known text = text ≡ []
 
 -- The same of the bytes of that line.
-abbrev pub IsReport : (program : List ℕ) → (number : ℕ) → (bytes text : List ℕ) → Type 0
-IsReport program number bytes text =
-    (known : Line) × IsLine bytes known × IsReportOf program number known text
+pub record IsReport (program : List ℕ) (number : ℕ) (bytes text : List ℕ) : Type 0 where
+  pub known : Line
+  pub is_line : IsLine bytes known
+  pub reports : IsReportOf program number known text
 
 -- Such a text is written, as far as the writer takes it, or there was no memory for it.
 abbrev pub WritesReport : (List ℕ → Type 0) → Result (Unit {0}) ServeError → (old new : Option (List ℕ)) → Type 0

@@ -1,12 +1,14 @@
 //! What is written to the standard error where a program ends.
 
 ghost use Rattle.std.specs.Prelude.{IfOk, string_bytes};
+ghost use Rattle.negotiate_lines.specs.declared.line.Line.TheVariants as line;
 ghost use Rattle.negotiate_serve.specs.Outputs.{Writes};
 ghost use Rattle.negotiate_serve.specs.Reports.{IsReport, IsReportOf, Reports, WritesReport, failure_line};
 
 use crate::ending::{Ending, ServeError};
 use crate::output::write_out;
 use negotiate_lines::line::{Line, parse};
+use negotiate_lines::wrong::Wrong;
 use negotiate_lines::wrong_text::wrong_text;
 use std::alloc::{AllocError, Global};
 use std::io::Write;
@@ -79,10 +81,23 @@ fn line_text(
     ensures { IfOk result (λ text. IsReportOf program.now number known.entry (string_bytes text)) }
 {
     match known {
-        Line::NotACommand(wrong) => {
-            let told = wrong_text(alloc, wrong)?;
-            format!(in alloc; "{program}: line {number}: {told}\n")
-        }
-        _ => Ok(String::new(alloc)),
+        Line::NotACommand(wrong) => told_line(alloc, program, number, wrong),
+        Line::Blank => Ok(String::new(alloc)),
+        Line::Command(_) => Ok(String::new(alloc)),
+    }
+}
+
+/// The line of what is wrong.
+fn told_line(
+    alloc: Global,
+    program: &str,
+    number: u64,
+    wrong: Wrong<'_>,
+) -> Result<String, AllocError>
+    ensures { IfOk result (λ text. IsReportOf program.now number (line.NotACommand wrong.entry) (string_bytes text)) }
+{
+    match wrong_text(alloc, wrong) {
+        Ok(told) => format!(in alloc; "{program}: line {number}: {told}\n"),
+        Err(error) => Err(error),
     }
 }
