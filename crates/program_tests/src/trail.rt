@@ -74,7 +74,6 @@ fn followed(rt: &HostRuntime) -> Option<(u8, Vec<u8>)> {
             options: FileLogOptions::new(),
         },
         follows: true,
-        is_diagram: false,
         from: 0,
     };
     let mut output = Vec::new(rt.alloc());

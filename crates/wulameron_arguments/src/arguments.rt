@@ -175,7 +175,6 @@ fn log_look_of<'a>(matches: &ArgMatches<'a>) -> Option<LogLook<'a>>
     Some(LogLook {
         place,
         follows: matches.get_flag("follow"),
-        is_diagram: matches.get_flag("diagram"),
         from,
     })
 }

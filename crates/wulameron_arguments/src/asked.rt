@@ -103,8 +103,6 @@ pub struct LogLook<'a> {
     pub place: Place<'a>,
     /// Whether it waits for more entries.
     pub follows: bool,
-    /// Whether it is printed as a diagram.
-    pub is_diagram: bool,
     /// The number of the first entry that is printed.
     pub from: u64,
 }

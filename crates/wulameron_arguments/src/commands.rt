@@ -147,18 +147,11 @@ fn log<'a>(alloc: Global, home: Option<&'a str>) -> Result<Command<'a>, AllocErr
         .value_parser(value_parser!(u64))
         .default_value("0")
         .help("The number of the first entry that is printed");
-    with_place(alloc, home, command)?
-        .arg(from)?
-        .arg(flag(
-            alloc,
-            "follow",
-            "Waits for more entries until it is interrupted",
-        ))?
-        .arg(flag(
-            alloc,
-            "diagram",
-            "Prints a Mermaid sequence diagram in place of lines",
-        ))
+    with_place(alloc, home, command)?.arg(from)?.arg(flag(
+        alloc,
+        "follow",
+        "Waits for more entries until it is interrupted",
+    ))
 }
 
 fn watch<'a>(alloc: Global, home: Option<&'a str>) -> Result<Command<'a>, AllocError> {

@@ -2,7 +2,6 @@ pub mod Changes
 pub mod Checking
 pub mod Commands
 pub mod Descriptions
-pub mod Drawings
 pub mod EntryTexts
 pub mod Pieces
 pub mod Showing

@@ -7,21 +7,15 @@ use Rattle.wulameron_trail.specs.declared.showing.Lines.{Lines}
 use Rattle.wulameron_trail.specs.declared.showing.Changes.{Changes}
 use Rattle.wulameron_trail.specs.declared.showing.Silence.{Silence}
 use Rattle.wulameron_trail.specs.Changes.{IsChangeOf, change_line, json_line}
-use Rattle.wulameron_trail.specs.Drawings.{AddsMessage}
 use Rattle.wulameron_trail.specs.EntryTexts.{AddsEntryLine}
 
 -- ---- lines
-
--- It is the line of the entry with this number, in a diagram or alone.
-abbrev pub IsShownLine : (diagram : Bool) → ℕ → Entry → List ℕ → Type 0
-IsShownLine true place e line = AddsMessage e [] line
-IsShownLine false place e line = AddsEntryLine place e [] line
 
 -- Each entry has its line, but for those with smaller numbers than the first that is wanted. The next has the next
 -- number, up to the greatest of 64 bits.
 pub record ShowsLine (old : Lines) (e : Entry) (line : List ℕ) (new : Lines) : Type 0 where
   pub left_out : old.place < old.from → line ≡ []
-  pub line_is : old.from ≤ old.place → IsShownLine old.is_diagram old.place e line
+  pub line_is : old.from ≤ old.place → AddsEntryLine old.place e [] line
   pub next : new ≡ record old { place = min (old.place + 1) (2 ^ 64 - 1) }
 
 -- ---- changes

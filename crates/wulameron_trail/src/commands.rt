@@ -5,7 +5,6 @@ ghost use Rattle.wulameron_trail.specs.Commands.{WritesVerdict, WritesVerdictOf,
 ghost use Rattle.wulameron_trail.specs.Commands.{verdict_status as status_of_verdict};
 
 use crate::checker::{Verdict, check as verdict_on};
-use crate::diagram::begin_diagram;
 use crate::following::{LogFile, follow, open_file};
 use crate::pauses::Pauses;
 use crate::printing::{Rest, show_entry};
@@ -55,30 +54,14 @@ fn print_log<F: Files<File = File> + AllocGlobal, I: Pauses, W: Write>(
     pauses: &mut I,
     output: &mut W,
 ) -> Result<(), Stop> {
-    if asked.is_diagram {
-        print_head(rt.alloc(), output)?;
-    }
     let mut lines = Lines {
         place: 0,
         from: asked.from,
-        is_diagram: asked.is_diagram,
     };
     if asked.follows {
         return follow(rt, asked.place.at, log, &mut lines, pauses, output);
     }
     print_once(rt.alloc(), log, &mut lines, output)
-}
-
-/// Prints what a diagram begins with.
-fn print_head<W: Write>(alloc: Global, output: &mut W) -> Result<(), Stop> {
-    let mut text = String::new(alloc);
-    if begin_diagram(&mut text).is_err() {
-        return Err(Stop::Failed(ServeError::OutOfMemory));
-    }
-    match write_out(text.as_bytes(), output) {
-        Ok(()) => Ok(()),
-        Err(fault) => Err(Stop::Failed(fault)),
-    }
 }
 
 /// Prints the entries that are written, and a mark after them.

@@ -1,11 +1,11 @@
-//! What shows the entries of a log: lines, a diagram, what they change, or nothing.
+//! What shows the entries of a log: lines, what they change, or nothing.
 
-ghost use Rattle.std.specs.Prelude.{◌≡◌, ◌++◌, ℕ, List, OnOk, string_bytes};
+ghost use Rattle.std.specs.Prelude.{◌≡◌, ◌++◌, ℕ, List, [], OnOk, string_bytes};
 ghost use Rattle.iceoryx2_journal.specs.Follow.{IsFollowed};
-ghost use Rattle.wulameron_trail.specs.Showings.{IsShownLine, shown_change};
+ghost use Rattle.wulameron_trail.specs.EntryTexts.{AddsEntryLine};
+ghost use Rattle.wulameron_trail.specs.Showings.{shown_change};
 
 use crate::changes::{Change, change_json, change_of, change_text, standing_of};
-use crate::diagram::draw_entry;
 use crate::entries::entry_line;
 use crate::printing::Shows;
 use crate::stopping::ShowError;
@@ -21,18 +21,13 @@ pub struct Lines {
     pub place: u64,
     /// Entries with a smaller number are left out.
     pub from: u64,
-    /// Whether the lines are those of a diagram.
-    pub is_diagram: bool,
 }
 
 /// Writes the line of the entry of this number.
-fn line_of(is_diagram: bool, place: u64, entry: &Entry, text: &mut String) -> Result<(), AllocError>
-    ensures { OnOk result ((line : List ℕ) × IsShownLine is_diagram place entry.now line
+fn line_of(place: u64, entry: &Entry, text: &mut String) -> Result<(), AllocError>
+    ensures { OnOk result ((line : List ℕ) × AddsEntryLine place entry.now [] line
         × (string_bytes text.new ≡ string_bytes text.old ++ line)) }
 {
-    if is_diagram {
-        return draw_entry(entry, text);
-    }
     entry_line(place, entry, text)
 }
 
@@ -47,7 +42,7 @@ impl Shows for Lines {
         if place < self.from {
             return Ok(());
         }
-        match line_of(self.is_diagram, place, entry, text) {
+        match line_of(place, entry, text) {
             Ok(()) => Ok(()),
             Err(_) => Err(ShowError::OutOfMemory),
         }
