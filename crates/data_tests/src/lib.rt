@@ -4,13 +4,16 @@
 //!
 //! Logs in files are made, held, cut and refused by name, and left as a crash may leave them. Their bytes are those that
 //! another program computed (`samples`). What a handle does to bytes is tested over a file in memory too (`media`).
-//! Where the file is removed, renamed or replaced under a handle, the handle says so (`lost_paths`).
+//! Where the file is removed, renamed or replaced under a handle, the handle says so (`lost_paths`). A call over several
+//! accesses keeps another handle out (`call_logs`).
 //!
 //! Of nodes (`nodes`), within one process: a node is claimed once, alive as long as its token stands and dead then; a
 //! look is in the way of a claim and of no look; the lowest free node is given; links, folders and foreign names are
 //! refused or passed over.
 #![tactic(auto)]
 
+#[cfg(test)]
+mod call_logs;
 #[cfg(test)]
 mod crashes;
 #[cfg(test)]

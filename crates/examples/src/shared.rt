@@ -6,13 +6,14 @@ use iceoryx2_monitoring::token::{Token, claim};
 use iceoryx2_service::builder::Node;
 use iceoryx2_service::builder::event::Builder;
 use iceoryx2_service::description::{Config, ServiceName, Time};
-use iceoryx2_service::shared::{FileLog, FileLogOptions, Journal, Shared, Sharing};
+use iceoryx2_service::port_factory::factory::{Kind, PortFactory};
+use iceoryx2_service::shared::{CallLog, FileLog, FileLogOptions, Journal, Shared, Sharing};
 use std::alloc::Global;
 use std::random::RandomSource;
 use std::{env, fs};
 
-/// A log in a file, and the services in it.
-type Log<'a> = FileLog<&'a HostRuntime>;
+/// A log in a file that calls hold from their first access to their last, and the services in it.
+type Log<'a> = CallLog<FileLog<&'a HostRuntime>>;
 
 type SharedFile<'a> = Shared<Log<'a>>;
 
@@ -26,6 +27,7 @@ fn join<'a>(rt: &'a HostRuntime, path: &str, node: u64) -> Result<(Token, Journa
         FileLogOptions::new(),
     )?;
     let counter = log.header().counter;
+    let log = CallLog::new(log);
     let mut journal = Journal::starting_at(rt.alloc(), log, Vec::new(rt.alloc()), counter);
     journal.clean(node)?;
     journal.adopt(node)?;
@@ -39,12 +41,27 @@ fn lamps<'a>(alloc: Global, node: u64) -> Result<Builder<SharedFile<'a>>> {
     Ok(builder.event())
 }
 
+/// Closes a factory, with the log held from the first access to the last.
+fn close_held<'a, K: Kind>(
+    factory: PortFactory<SharedFile<'a>, K>,
+    journal: &mut Journal<Log<'a>>,
+) -> Result<()> {
+    journal.begin_call();
+    let closed = close(factory, journal);
+    journal.end_call();
+    closed
+}
+
 /// Node 2 finds the service, and how many listeners were agreed.
 fn find(rt: &HostRuntime, path: &str) -> Result<u64> {
     let (_token, mut journal) = join(rt, path, 2)?;
-    let factory = lamps(rt.alloc(), 2)?.open(&mut journal)?;
+    let builder = lamps(rt.alloc(), 2)?;
+    journal.begin_call();
+    let opened = builder.open(&mut journal);
+    journal.end_call();
+    let factory = opened?;
     let agreed = factory.static_config().max_listeners;
-    close(factory, &mut journal)?;
+    close_held(factory, &mut journal)?;
     Ok(agreed)
 }
 
@@ -52,9 +69,12 @@ fn find(rt: &HostRuntime, path: &str) -> Result<u64> {
 fn meet(rt: &HostRuntime, path: &str) -> Result<u64> {
     let (_token, mut journal) = join(rt, path, 1)?;
     let builder = lamps(rt.alloc(), 1)?.max_listeners(4);
-    let factory = builder.create(&mut journal, Ok(Time::default()))?;
+    journal.begin_call();
+    let created = builder.create(&mut journal, Ok(Time::default()));
+    journal.end_call();
+    let factory = created?;
     let found = find(rt, path);
-    close(factory, &mut journal)?;
+    close_held(factory, &mut journal)?;
     found
 }
 
