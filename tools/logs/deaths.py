@@ -296,14 +296,15 @@ def left_alone(runs, death, name):
 def wanted_within(world, death, call):
     """How a call has to be answered in the end, and whether the dead node is cleaned up for within it."""
     create, opening = answers(world, death.found)
+    # What others leave half removed is no service any more, but its description stands.
+    is_cleaned = opening in (*BLOCKED, "ServiceInCorruptedState")
     if call == "open_or_create":
-        # What others leave half removed it finds in each of its rounds.
-        return "ok", opening in (*BLOCKED, "ServiceInCorruptedState")
+        return "ok", is_cleaned
     if call == "create":
         return ("ok", True) if create in BLOCKED else (create, False)
     if death.found not in world.rows:
         return "DoesNotExist", False
-    if opening in BLOCKED:
+    if is_cleaned:
         return "ok" if death.is_beside else "DoesNotExist", True
     return opening, False
 
