@@ -1,5 +1,5 @@
 -- A log in memory.
-use Rattle.std.specs.Prelude.{◌≡◌, ℕ, Bool, true, false, ◌&&◌, List, [], ◌∷◌, ◌++◌, nat_eq, nat_lt, not}
+use Rattle.std.specs.Prelude.{◌≡◌, ℕ, Bool, true, false, ◌&&◌, ◌||◌, List, [], ◌∷◌, ◌++◌, nat_eq, nat_lt, not}
 use Rattle.std.specs.Prelude.{Result, Ok, Err}
 use Rattle.std.specs.List.{list_any}
 use Rattle.iceoryx2_access.specs.Counts.{count_up}
@@ -15,9 +15,11 @@ pub record LogState : Type 0 where
   -- what others append before the next holds, a batch for each
   pub batches : List (List Entry)
   pub held : Bool
+  -- whether it was looked at since it was held or let go of last
+  pub looks : Bool
   -- whether the first of the unread entries was shown
   pub shown : Bool
-  -- how often was asked to hold it, and which of these find it busy, counted from 1
+  -- how often was asked to hold it or to look at it, and which of these find it busy, counted from 1
   pub holds : ℕ
   pub busy : List ℕ
   -- how often was asked to append, and which of these are refused, counted from 1
@@ -62,6 +64,20 @@ Holds old (Err OutOfMemory) new = (old.held ≡ false) × (is_listed (count_up o
 Holds old (Err Damaged) new = ⊥
 Holds old (Err Moved) new = ⊥
 
+-- What each answer of a look says of the log before, and what it leaves: the same as of a hold, but the log isn't held.
+abbrev pub Looks : LogState → Result (Unit {0}) LogError → LogState → Type 0
+Looks old (Ok _) new = (old.held ≡ false) × (is_listed (count_up old.holds) old.busy ≡ false)
+    × (new ≡ record (with_batch (hold_counted old) old.batches) { looks = true })
+Looks old (Err why) new = Holds old (Err why) new
+
+-- It is held, or was looked at.
+abbrev pub may_read : LogState → Bool
+may_read s = s.held || s.looks
+
+-- neither held nor looked at
+abbrev pub freed : LogState → LogState
+freed s = record s { held = false; looks = false }
+
 -- ---- accept
 
 -- The first of the unread entries is taken over, where it was shown.
@@ -94,5 +110,5 @@ AppendsOne old e (Err Moved) new = ⊥
 
 -- Whether there is a pause of this number, and what it leaves.
 abbrev pub Pauses : LogState → ℕ → Bool → LogState → Type 0
-Pauses old number true new = (nat_lt number old.pauses ≡ true) × (new ≡ record old { held = false })
+Pauses old number true new = (nat_lt number old.pauses ≡ true) × (new ≡ freed old)
 Pauses old number false new = (nat_lt number old.pauses ≡ false) × (new ≡ old)

@@ -128,6 +128,25 @@ impl<L: Log> Log for CallLog<L> {
         Ok(())
     }
 
+    /// Within a call that has the log nothing is left to measure. Where the call was refused the log, this is too.
+    /// `Failed` where an access holds it.
+    fn look(&mut self) -> Result<(), LogError>
+        ensures ok { OnOk result (WhereKnown Grows (L.contents self.old.log) (L.contents self.new.log)) }
+        ensures err { OnErr result (L.contents self.new.log ≡ L.contents self.old.log) }
+        ensures was_free { OnOk result (self.old.is_held ≡ false) }
+        ensures same { self.new ≡ record self.old { log = self.new.log } }
+        ensures keeps { IsSpanned L.held self.old → IsSpanned L.held self.new }
+    {
+        if self.is_held {
+            return Err(LogError::Failed);
+        }
+        match self.span {
+            Span::Held => Ok(()),
+            Span::Refused(error) => Err(error),
+            _ => self.log.look(),
+        }
+    }
+
     fn next(&mut self) -> Result<Option<Entry>, LogError>
         ensures shows { IfOk result
             (λ found. WhereKnown (Shows found) (L.contents self.old.log) (L.contents self.new.log)) }

@@ -9,7 +9,8 @@
 //! The trait `Log` has what each call makes of what the handle has taken and of what is unread, where these are
 //! known (`WhereKnown`), of whether the handle holds the log (`held`), and of whether `next` has shown the entry that
 //! `accept` takes over (`shown`). A hold is granted only where the handle doesn't hold the log, and an append only where
-//! it does. `MemoryLog` keeps it, and its holds and appends are exact but for memory (`Holds`, `AppendsOne`).
+//! it does. A look reads on without holding it. `MemoryLog` keeps this, and its holds, looks and appends are exact but
+//! for memory (`Holds`, `Looks`, `AppendsOne`).
 //!
 //! `CallLog` is any log held over all accesses of a call: the log inside stays held as long as the call has it
 //! (`IsSpanned`), and a call finds it busy with its first access or never (`SpansOn`).

@@ -85,8 +85,17 @@ pub trait Log {
         ensures held { OnOk result (held self.new ≡ true) }
         ensures held_err { OnErr result (held self.new ≡ held self.old) };
 
-    /// The next entry of another, which stays unread. `Failed` where the log isn't held, and `Moved` where it goes on
-    /// in another place.
+    /// Measures how far the log goes, and holds it no longer than that takes. Up to the next `hold` or `let_go`, `next`
+    /// shows what stood there then, though the log isn't held. `Busy` where others held it all of a bounded time. An
+    /// `Err` where this handle holds it.
+    fn look(&mut self) -> Result<(), LogError>
+        ensures ok { OnOk result (WhereKnown Grows (contents self.old) (contents self.new)) }
+        ensures err { OnErr result (contents self.new ≡ contents self.old) }
+        ensures was_free { OnOk result (held self.old ≡ false) }
+        ensures held { held self.new ≡ held self.old };
+
+    /// The next entry of another, which stays unread. `Failed` where the log is neither held nor was looked at, and
+    /// `Moved` where it goes on in another place.
     fn next(&mut self) -> Result<Option<Entry>, LogError>
         ensures shows { IfOk result (λ found. WhereKnown (Shows found) (contents self.old) (contents self.new)) }
         ensures same { contents self.new ≡ contents self.old }
@@ -121,9 +130,9 @@ pub trait Log {
 
     // ---- compaction: the log goes on in another place, which begins with a snapshot
 
-    /// Goes to the place where the log goes on now, holds it there, and stands before its first entry. Gives the number
-    /// with which the counter begins there. `Failed` where the log isn't held. An `Err` leaves this handle where it
-    /// stood.
+    /// Goes to the place where the log goes on now, and stands before its first entry. A log that was held is held
+    /// there, and one that was looked at is looked at there. Gives the number with which the counter begins there.
+    /// `Failed` where the log is neither held nor was looked at. An `Err` leaves this handle where it stood.
     fn rejoin(&mut self) -> Result<u64, LogError>
         ensures ok { IfOk result (λ counter. WhereKnown (Rejoins counter) (contents self.old) (contents self.new)) }
         ensures err { OnErr result (contents self.new ≡ contents self.old) }

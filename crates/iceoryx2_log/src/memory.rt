@@ -67,7 +67,7 @@ fn has(numbers: &[u64], number: u64) -> bool
 
 /// A handle of a log in memory. What others append is handed in as batches: before each hold that is granted the next
 /// one comes. Holds and appends are counted from 1, refused ones too; one past `u64::MAX` counts as the `u64::MAX`-th.
-/// Holds of chosen numbers find the log busy, and appends of chosen numbers are refused.
+/// Holds of chosen numbers find the log busy, and appends of chosen numbers are refused. A look counts as a hold.
 pub struct MemoryLog {
     // all that stands, and how much of it this handle has taken
     entries: Vec<Entry>,
@@ -77,6 +77,8 @@ pub struct MemoryLog {
     batches: Vec<Batch>,
     came: usize,
     held: bool,
+    // whether it was looked at since it was held or let go of last
+    looks: bool,
     // whether the next entry was shown
     shown: bool,
     holds: u64,
@@ -97,6 +99,7 @@ impl Drop for MemoryLog {
             batches: _,
             came: _,
             held: _,
+            looks: _,
             shown: _,
             holds: _,
             busy: _,
@@ -118,6 +121,7 @@ impl Model for MemoryLog {
       appended = l.appended.items;
       batches = drop l.came l.batches.items;
       held = l.held;
+      looks = l.looks;
       shown = l.shown;
       holds = l.holds;
       busy = l.busy.items;
@@ -139,6 +143,7 @@ impl MemoryLog {
           appended = [];
           batches = [];
           held = false;
+          looks = false;
           shown = false;
           holds = 0;
           busy = [];
@@ -154,6 +159,7 @@ impl MemoryLog {
             batches: Vec::new(alloc),
             came: 0,
             held: false,
+            looks: false,
             shown: false,
             holds: 0,
             busy: Vec::new(alloc),
@@ -174,6 +180,7 @@ impl MemoryLog {
             batches: _,
             came: _,
             held: _,
+            looks: _,
             shown: _,
             holds: _,
             busy: _,
@@ -280,7 +287,7 @@ impl MemoryLog {
 
 impl Log for MemoryLog {
     ghost use Rattle.std.specs.Prelude.{Some};
-    ghost use Rattle.iceoryx2_log.specs.Memory.{Holds, AppendsOne, Pauses};
+    ghost use Rattle.iceoryx2_log.specs.Memory.{Holds, Looks, AppendsOne, Pauses, may_read, freed};
 
     ghost contents = { λ s. Some s.contents };
 
@@ -304,14 +311,30 @@ impl Log for MemoryLog {
         Ok(())
     }
 
+    /// The next batch comes, as for a hold. `Failed` where the log is held, which is tested first.
+    fn look(&mut self) -> Result<(), LogError>
+        ensures { Looks self.old result self.new }
+    {
+        self.holds = self.holds.saturating_add(1);
+        if self.held {
+            return Err(LogError::Failed);
+        }
+        if has(&self.busy, self.holds) {
+            return Err(LogError::Busy);
+        }
+        self.take_batch()?;
+        self.looks = true;
+        Ok(())
+    }
+
     fn next(&mut self) -> Result<Option<Entry>, LogError>
-        ensures shows { IfOk result (λ found. (self.old.held ≡ true) × (found ≡ first self.old.contents.unread)) }
-        ensures failed { (result ≡ Err LogError.Failed) ↔ (self.old.held ≡ false) }
-        ensures memory { self.old.held ≡ true → IfErr result (λ e. e ≡ OutOfMemory) }
+        ensures shows { IfOk result (λ found. (may_read self.old ≡ true) × (found ≡ first self.old.contents.unread)) }
+        ensures failed { (result ≡ Err LogError.Failed) ↔ (may_read self.old ≡ false) }
+        ensures memory { may_read self.old ≡ true → IfErr result (λ e. e ≡ OutOfMemory) }
         ensures same { self.new ≡ record self.old { shown = is_shown result } }
     {
         self.shown = false;
-        if !self.held {
+        if !self.held && !self.looks {
             return Err(LogError::Failed);
         }
         match self.entries.get(self.taken) {
@@ -360,9 +383,10 @@ impl Log for MemoryLog {
     }
 
     fn let_go(&mut self)
-        ensures { self.new ≡ record self.old { held = false } }
+        ensures { self.new ≡ freed self.old }
     {
         self.held = false;
+        self.looks = false;
     }
 
     fn pause(&mut self, number: u64) -> bool
@@ -370,6 +394,7 @@ impl Log for MemoryLog {
     {
         if number < self.pauses {
             self.held = false;
+            self.looks = false;
             return true;
         }
         false
@@ -408,6 +433,8 @@ impl Log for MemoryLog {
 
 /// Nobody else holds it.
 impl SpansCalls for MemoryLog {
+    ghost use Rattle.iceoryx2_log.specs.Memory.{freed};
+
     ghost in_call = { λ _. false };
 
     fn begin_call(&mut self)
@@ -415,8 +442,9 @@ impl SpansCalls for MemoryLog {
     {}
 
     fn end_call(&mut self)
-        ensures { self.new ≡ record self.old { held = false } }
+        ensures { self.new ≡ freed self.old }
     {
         self.held = false;
+        self.looks = false;
     }
 }

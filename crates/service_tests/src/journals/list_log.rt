@@ -25,6 +25,9 @@ pub struct ListLog {
     taken: usize,
     is_held: bool,
     is_shown: bool,
+    /// How many of the place's entries stood when it was looked at, where it isn't held since and was not let go of. All
+    /// do in a place that isn't the last.
+    looked_to: Option<usize>,
     /// How many entries a place has at least that is long.
     long_from: usize,
 }
@@ -38,7 +41,22 @@ impl ListLog {
             taken: 0,
             is_held: false,
             is_shown: false,
+            looked_to: None,
             long_from,
+        }
+    }
+
+    /// How many of the place's entries stand, or no bound where the log goes on elsewhere.
+    fn length(&self) -> Result<usize, LogError> {
+        let Ok(all) = self.places.try_borrow() else {
+            return Err(LogError::Failed);
+        };
+        if self.place.saturating_add(1) < all.len() {
+            return Ok(usize::MAX);
+        }
+        match all.get(self.place) {
+            Some(here) => Ok(here.entries.len()),
+            None => Err(LogError::Failed),
         }
     }
 
@@ -103,13 +121,29 @@ impl Log for ListLog {
             return Err(LogError::Failed);
         }
         self.is_held = true;
+        self.looked_to = None;
+        Ok(())
+    }
+
+    fn look(&mut self) -> Result<(), LogError> {
+        if self.is_held {
+            return Err(LogError::Failed);
+        }
+        self.looked_to = Some(self.length()?);
         Ok(())
     }
 
     fn next(&mut self) -> Result<Option<Entry>, LogError> {
         self.is_shown = false;
         if !self.is_held {
-            return Err(LogError::Failed);
+            match self.looked_to {
+                None => return Err(LogError::Failed),
+                Some(end) => {
+                    if end <= self.taken {
+                        return Ok(None);
+                    }
+                }
+            }
         }
         match self.unread()? {
             Some(entry) => {
@@ -148,6 +182,7 @@ impl Log for ListLog {
 
     fn let_go(&mut self) {
         self.is_held = false;
+        self.looked_to = None;
     }
 
     fn pause(&mut self, _number: u64) -> bool {
@@ -155,13 +190,16 @@ impl Log for ListLog {
     }
 
     fn rejoin(&mut self) -> Result<u64, LogError> {
-        if !self.is_held {
+        if !self.is_held && self.looked_to.is_none() {
             return Err(LogError::Failed);
         }
         let Ok(all) = self.places.try_borrow() else {
             return Err(LogError::Failed);
         };
         self.place = all.len().saturating_sub(1);
+        if !self.is_held {
+            self.looked_to = Some(self.length()?);
+        }
         self.taken = 0;
         self.is_shown = false;
         Ok(0)

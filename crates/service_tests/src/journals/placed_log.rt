@@ -14,6 +14,8 @@ pub struct PlacedLog {
     alloc: Global,
     here: MemoryLog,
     is_held: bool,
+    /// Whether it was looked at since it was held or let go of last.
+    looks: bool,
     /// How many of the entries are the snapshot.
     snapshot_length: usize,
     /// How many entries a place has at least that is long.
@@ -41,6 +43,7 @@ impl PlacedLog {
             alloc,
             here: MemoryLog::from_entries(alloc, Vec::new(alloc), 0),
             is_held: false,
+            looks: false,
             snapshot_length: 0,
             long_from,
             has_moved: false,
@@ -90,6 +93,15 @@ impl Log for PlacedLog {
         }
     }
 
+    fn look(&mut self) -> Result<(), LogError> {
+        if self.is_held {
+            return Err(LogError::Failed);
+        }
+        self.here.look()?;
+        self.looks = true;
+        Ok(())
+    }
+
     fn next(&mut self) -> Result<Option<Entry>, LogError> {
         if self.has_moved {
             return Err(LogError::Moved);
@@ -113,6 +125,7 @@ impl Log for PlacedLog {
     fn let_go(&mut self) {
         self.here.let_go();
         self.is_held = false;
+        self.looks = false;
     }
 
     fn pause(&mut self, _number: u64) -> bool {
@@ -120,12 +133,17 @@ impl Log for PlacedLog {
     }
 
     fn rejoin(&mut self) -> Result<u64, LogError> {
-        if !self.is_held || !self.has_moved {
+        if !self.is_held && !self.looks || !self.has_moved {
             return Err(LogError::Failed);
         }
         let entries = mem::replace(&mut self.elsewhere, Vec::new(self.alloc));
         let mut there = MemoryLog::from_entries(self.alloc, entries, 0);
-        match there.hold() {
+        let taken_up = if self.is_held {
+            there.hold()
+        } else {
+            there.look()
+        };
+        match taken_up {
             Ok(()) => {
                 self.here = there;
                 self.has_moved = false;
