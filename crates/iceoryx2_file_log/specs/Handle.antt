@@ -1,6 +1,6 @@
 -- What the calls of a handle leave of where it stands.
 use Rattle.std.specs.Prelude.{ℕ, ◌+◌, ◌≡◌, ◌≢◌, ◌<◌, ◌≤◌, ◌⊎◌, Bool, true, false, List, ◌++◌, length, string_bytes}
-use Rattle.std.specs.Prelude.{Option, Some, None, Result, Err, IfOk, IsTrue}
+use Rattle.std.specs.Prelude.{Option, Some, None, Result, Err, IfOk, IfErr, IsTrue}
 use Rattle.iceoryx2_log.specs.declared.entry.Entry.{Entry}
 use Rattle.iceoryx2_log.specs.declared.entry.Deed.TheVariants.{Moved}
 use Rattle.iceoryx2_log.specs.declared.log.LogError.{LogError}
@@ -19,8 +19,8 @@ use Rattle.iceoryx2_file_log.specs.declared.remainder.Front.{Front}
 use Rattle.iceoryx2_file_log.specs.declared.remainder.Front.TheVariants.{Whole, Unfinished, Torn, Damaged}
 use Rattle.iceoryx2_file_log.specs.Errors.{log_error_of}
 use Rattle.iceoryx2_file_log.specs.Remainder.{IsTorn}
-use Rattle.iceoryx2_file_log.specs.Compaction.{IsMark, first_tried, later, snapshot_end}
-use Rattle.iceoryx2_file_log.specs.Place.{Place, start, left, held, cut, appended, let_go_of, state_after}
+use Rattle.iceoryx2_file_log.specs.Compaction.{IsMark, MayBeCut, first_tried, later, snapshot_end}
+use Rattle.iceoryx2_file_log.specs.Place.{Place, start, left, held, looked_to, cut, appended, let_go_of, state_after}
 
 -- What a handle is seen as.
 pub record HandleFacts : Type 0 where
@@ -34,8 +34,12 @@ pub record HandleFacts : Type 0 where
   pub tries_from : ℕ
   -- whether it has the lock of the file in which it stands
   pub is_locked : Bool
-  -- whether that file had the log's path no more when it was held last
+  -- whether that file had the log's path no more when it was held or measured last
   pub is_away : Bool
+  -- whether the file was measured, so that what stood then is read, though the log isn't held
+  pub looks : Bool
+  -- whether the file was opened to read only
+  pub only_reads : Bool
 
 -- A held handle has the lock, and a free one hasn't. One that is used no more may have it.
 abbrev pub HasLock : State → Bool → Type 0
@@ -43,6 +47,11 @@ HasLock Free is_locked = is_locked ≡ false
 HasLock Held is_locked = is_locked ≡ true
 HasLock state.Unsure is_locked = Unit {0}
 HasLock (state.Damaged at) is_locked = Unit {0}
+
+-- A handle that looks, or was opened to read only, hasn't the lock.
+pub record ReadsUnlocked (looks only_reads is_locked : Bool) : Type 0 where
+  pub looking : looks ≡ true → is_locked ≡ false
+  pub reading : only_reads ≡ true → is_locked ≡ false
 
 -- of the log with this header in the file of this path: nothing is taken over of it
 abbrev pub new_handle : (path : List ℕ) → FileLogOptions → Header → HandleFacts
@@ -55,7 +64,13 @@ new_handle path options h = record {
   tries_from = first_tried h;
   is_locked = false;
   is_away = false;
+  looks = false;
+  only_reads = false;
 }
+
+-- the same, opened to read only
+abbrev pub new_reader : (path : List ℕ) → FileLogOptions → Header → HandleFacts
+new_reader path options h = record (new_handle path options h) { only_reads = true }
 
 -- A refused call answers by why it was refused, which is kept, and leaves the state after that.
 abbrev pub IsRefused : LogError → Option FileFault → State → State → Type 0
@@ -126,6 +141,38 @@ pub record Appends (e : Entry) (old new : Place) : Type 0 where
   pub all_read : old.file_length ≡ old.position
   pub is : new ≡ appended (length form) old
 
+-- ---- a look: what stood when the file was measured is read, though the log isn't held
+
+-- It was free, and knows how long the file is, which is not shorter than what was taken over of it. It hasn't the lock.
+pub record LooksAt (old new : HandleFacts) : Type 0 where
+  pub free : old.cursor.state ≡ Free
+  pub fits : old.cursor.position ≤ new.cursor.file_length
+  pub is : new ≡ record old {
+    cursor = looked_to new.cursor.file_length old.cursor;
+    is_away = new.is_away;
+    looks = true;
+  }
+
+-- No more stands there, or what was read is all that was left, and torn or a mark. It stays in the file.
+abbrev pub EndsUncut : Place → Type 0
+EndsUncut p = (p.file_length ≡ p.position) ⊎ (MayBeCut p.ahead × (left p ≤ length p.ahead))
+
+-- What stands at the position, where nothing is written: an entry, or none up to the measured end.
+abbrev pub ShowsUncut : Option Entry → Place → Place → Type 0
+ShowsUncut (Some e) old new = Finds e old new
+ShowsUncut None old new = EndsUncut new
+
+-- A refused call answers by why it was refused, which is kept.
+abbrev pub IsKept : LogError → Option FileFault → Type 0
+IsKept e (Some why) = e ≡ log_error_of why
+IsKept e None = ⊥
+
+-- What a handle finds that looks. It stays where it is and of use, and no byte is cut off.
+pub record LooksNext (result : Result (Option Entry) LogError) (old new : HandleFacts) : Type 0 where
+  pub shows : IfOk result (λ found. ShowsUncut found old.cursor new.cursor)
+  pub uncut : new.cursor ≡ record old.cursor { ahead = new.cursor.ahead; found = new.cursor.found }
+  pub err : IfErr result (λ e. IsKept e new.fault)
+
 -- ---- a file that has the log's path no more
 
 -- It doesn't end: where no entry is shown it refuses. Nothing is cut off.
@@ -154,7 +201,7 @@ postponed f = record f { tries_from = later f.cursor.file_length }
 
 -- with the lock given back
 abbrev pub freed : HandleFacts → HandleFacts
-freed f = record f { cursor = let_go_of f.cursor; is_locked = false }
+freed f = record f { cursor = let_go_of f.cursor; is_locked = false; looks = false }
 
 -- It was let go of for a pause, or nothing changed.
 abbrev pub Pauses : Bool → HandleFacts → HandleFacts → Type 0

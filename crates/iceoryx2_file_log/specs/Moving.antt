@@ -8,7 +8,7 @@ use Rattle.iceoryx2_file_log.specs.declared.header.Header.{Header}
 use Rattle.iceoryx2_file_log.specs.declared.cursor.State.TheVariants.{Held}
 use Rattle.iceoryx2_file_log.specs.Errors.{log_error_of}
 use Rattle.iceoryx2_file_log.specs.Compaction.{IsSnapshot, IsWorth, TriesAgain, first_tried}
-use Rattle.iceoryx2_file_log.specs.Place.{start, held, state_after}
+use Rattle.iceoryx2_file_log.specs.Place.{start, held, looked_to, state_after}
 use Rattle.iceoryx2_file_log.specs.Handle.{HandleFacts, postponed}
 
 -- A refused call answers by why it was refused, which is kept, and nothing else changes.
@@ -33,6 +33,18 @@ pub record Rejoins (counter : ℕ) (old new : HandleFacts) : Type 0 where
   pub begins : counter ≡ new.header.counter
   pub fits : HEADER_LENGTH ≤ new.cursor.file_length
   pub is : new ≡ stood HEADER_LENGTH new.header new.cursor.file_length old
+
+-- It goes to the file that has the path now, which is of the same log, and looks at that, from before its first entry.
+pub record LooksElsewhere (counter : ℕ) (old new : HandleFacts) : Type 0 where
+  pub same_log : new.header.name ≡ old.header.name
+  pub begins : counter ≡ new.header.counter
+  pub fits : HEADER_LENGTH ≤ new.cursor.file_length
+  pub is : new ≡ record old {
+    header = new.header;
+    cursor = looked_to new.cursor.file_length (start HEADER_LENGTH);
+    tries_from = first_tried new.header;
+    is_away = false;
+  }
 
 -- held at the end of the file of this header and these bytes
 abbrev pub ended : Header → List ℕ → HandleFacts → HandleFacts

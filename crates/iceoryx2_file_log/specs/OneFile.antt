@@ -13,7 +13,7 @@ use Rattle.iceoryx2_file_log.specs.declared.one_file.Found.{Found}
 use Rattle.iceoryx2_file_log.specs.declared.one_file.Found.TheVariants as there
 use Rattle.iceoryx2_file_log.specs.Compaction.{BeginsWithMark, snapshot_end}
 use Rattle.iceoryx2_file_log.specs.Place.{Place, state_after}
-use Rattle.iceoryx2_file_log.specs.Handle.{Finds}
+use Rattle.iceoryx2_file_log.specs.Handle.{Finds, EndsUncut}
 use Rattle.iceoryx2_file_log.specs.Medium.{Known, AreBytes, BeginWith, Keeps, MayChangeFrom}
 use Rattle.iceoryx2_file_log.specs.Bytes.{Reading}
 use Rattle.iceoryx2_file_log.specs.Entries.{entries_in}
@@ -122,6 +122,18 @@ abbrev pub ShowsNext : Found → Place → Place → Type 0
 ShowsNext (there.Entry e) old new = Finds e old new
 ShowsNext there.End old new = new.file_length ≡ new.position
 ShowsNext (there.Mark count) old new = ShowsMark count old new
+
+-- The same where nothing is written: what is torn at the end stays there, and a mark is shown only as the last entry.
+abbrev pub ShowsUnwritten : Found → Place → Place → Type 0
+ShowsUnwritten (there.Entry e) old new = Finds e old new
+ShowsUnwritten there.End old new = EndsUncut new
+ShowsUnwritten (there.Mark count) old new = EndsUncut new
+
+-- Where no entry comes, the whole snapshot is taken over.
+abbrev pub IsEntryOrPast : Found → Header → Place → Type 0
+IsEntryOrPast (there.Entry e) h p = Unit {0}
+IsEntryOrPast there.End h p = snapshot_end h ≤ p.position
+IsEntryOrPast (there.Mark count) h p = snapshot_end h ≤ p.position
 
 -- Where the file ends, the whole snapshot is taken over.
 abbrev pub EndsPastSnapshot : Found → Header → Place → Type 0

@@ -33,6 +33,10 @@ left p = p.file_length - p.position
 abbrev pub held : ℕ → Place → Place
 held file_length p = record { state = Held; position = p.position; file_length = file_length; ahead = []; found = 0 }
 
+-- The file was measured, and nothing was read yet.
+abbrev pub looked_to : ℕ → Place → Place
+looked_to file_length p = record p { file_length = file_length; ahead = []; found = 0 }
+
 -- with the entry that was found taken over
 abbrev pub accepted : Place → Place
 accepted p = record p { position = p.position + p.found; ahead = drop p.found p.ahead; found = 0 }

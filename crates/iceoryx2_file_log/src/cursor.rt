@@ -67,7 +67,7 @@ impl Model for Cursor {
 
 impl Cursor {
     ghost use Rattle.iceoryx2_file_log.specs.Place.{start, left, held, accepted, cut, appended, let_go_of, state_after};
-    ghost use Rattle.iceoryx2_file_log.specs.Place.{why_not_free, why_not_held};
+    ghost use Rattle.iceoryx2_file_log.specs.Place.{why_not_free, why_not_held, looked_to};
 
     /// Of a handle that is free, at the end of what stands before the entries.
     pub fn new(alloc: Global, position: u64) -> Cursor
@@ -187,6 +187,16 @@ impl Cursor {
         self.found = 0;
         self.file_length = file_length;
         self.state = State::Held;
+    }
+
+    /// The file was measured, and is so long. Nothing else is known of it.
+    pub fn look(&mut self, file_length: u64)
+        requires { self.old.position ≤ file_length }
+        ensures { self.new ≡ looked_to file_length self.old }
+    {
+        self.ahead.clear();
+        self.found = 0;
+        self.file_length = file_length;
     }
 
     /// These bytes were read next. An `Err` changes nothing.

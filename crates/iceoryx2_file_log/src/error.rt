@@ -35,6 +35,8 @@ pub enum FileFault {
     OutOfMemory,
     /// The body of an entry is longer than any that is read.
     TooLong,
+    /// The handle was opened to read only, so it never holds the log.
+    ReadOnly,
     /// The handle holds the log already.
     HeldAlready,
     /// The handle doesn't hold the log.
@@ -91,6 +93,7 @@ impl fmt::Display for FileFault {
             FileFault::DiskFull => write!(f, "no room on the disk"),
             FileFault::OutOfMemory => write!(f, "out of memory"),
             FileFault::TooLong => write!(f, "an entry's body has at most 1048576 bytes"),
+            FileFault::ReadOnly => write!(f, "was opened to read only"),
             FileFault::HeldAlready => write!(f, "the log is held already"),
             FileFault::NotHeld => write!(f, "the log is not held"),
             FileFault::Unread => write!(f, "entries of others are unread"),

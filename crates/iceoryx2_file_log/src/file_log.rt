@@ -29,11 +29,13 @@ ghost use Rattle.iceoryx2_file_log.specs.Handle.{IsRefused, Holds, Shows, Spares
 ghost use Rattle.iceoryx2_file_log.specs.Handle.{ReadsOn, IsFront, IsErrorOf, Pauses, postponed, freed};
 ghost use Rattle.iceoryx2_file_log.specs.Handle.{IsNoMark, IsPastSnapshot, IsNotAcross, IsSureOfCuts, new_handle};
 ghost use Rattle.iceoryx2_file_log.specs.Handle.{IsAwayNext, IsHeldAway, MeetsNoEntry, IsRemoved};
-ghost use Rattle.iceoryx2_file_log.specs.Moving.{OnlyRefuses, Rejoins, Compacts, RefusesCompaction};
+ghost use Rattle.iceoryx2_file_log.specs.Handle.{LooksAt, LooksNext, new_reader};
+ghost use Rattle.iceoryx2_file_log.specs.Moving.{OnlyRefuses, Rejoins, LooksElsewhere, Compacts, RefusesCompaction};
 
 mod away;
 mod beside;
 mod compacting;
+mod looking;
 mod marking;
 
 use self::away::{is_away, next_away};
@@ -76,13 +78,17 @@ pub struct FileLog<R> {
     tries_from: u64,
     /// Whether this handle has the lock of its file.
     is_locked: bool,
-    /// Whether the file had the log's path no more when it was held last.
+    /// Whether the file had the log's path no more when it was held or measured last.
     is_away: bool,
+    /// Whether the file was measured, so that what stood then is read, though the log isn't held.
+    looks: bool,
+    /// Whether the file was opened to read only.
+    only_reads: bool,
 }
 
 impl<R> Model for FileLog<R> {
     ghost use Rattle.std.specs.Prelude.{string_bytes};
-    ghost use Rattle.iceoryx2_file_log.specs.Handle.{HandleFacts, HasLock};
+    ghost use Rattle.iceoryx2_file_log.specs.Handle.{HandleFacts, HasLock, ReadsUnlocked};
 
     ghost Value = { HandleFacts };
 
@@ -95,9 +101,12 @@ impl<R> Model for FileLog<R> {
       tries_from = log.tries_from;
       is_locked = log.is_locked;
       is_away = log.is_away;
+      looks = log.looks;
+      only_reads = log.only_reads;
     } };
 
-    ghost invariant = { λ log. HasLock log.cursor.state log.is_locked };
+    ghost invariant = { λ log. HasLock log.cursor.state log.is_locked
+        × ReadsUnlocked log.looks log.only_reads log.is_locked };
 }
 
 impl<R: Drop> Drop for FileLog<R> {
@@ -115,6 +124,8 @@ impl<R: Drop> Drop for FileLog<R> {
             tries_from: _,
             is_locked: _,
             is_away: _,
+            looks: _,
+            only_reads: _,
         } = self;
     }
 }
@@ -180,7 +191,7 @@ impl<R: Files<File = File> + Clock + RandomSource + AllocGlobal + Drop> FileLog<
         ensures err { IfErr result (λ error. error.path ≡ path) }
     {
         let found = opened(&rt, &path, &options);
-        FileLog::of_found(rt, path, options, found)
+        FileLog::of_found(rt, path, options, found, false)
     }
 
     /// A handle of the log in the file of this path, which is never made: `Failed` by `NotFound` where nothing has it.
@@ -195,8 +206,26 @@ impl<R: Files<File = File> + Clock + RandomSource + AllocGlobal + Drop> FileLog<
         let missing = FileFault::Failed {
             kind: ErrorKind::NotFound,
         };
-        let found = reopened(&rt, &path, missing);
-        FileLog::of_found(rt, path, options, found)
+        let found = reopened(&rt, &path, missing, true);
+        FileLog::of_found(rt, path, options, found, false)
+    }
+
+    /// A handle that only reads the log in the file of this path, for anyone who may read the file and not write it.
+    /// The file is never made: `Failed` by `NotFound` where nothing has the path. `look` and `next` read the log, and
+    /// `hold` and `append` refuse.
+    pub fn open_to_read(
+        rt: R,
+        path: String,
+        options: FileLogOptions,
+    ) -> Result<FileLog<R>, FileLogError>
+        ensures new { IfOk result (λ log. log ≡ new_reader (string_bytes path) options log.header) }
+        ensures err { IfErr result (λ error. error.path ≡ path) }
+    {
+        let missing = FileFault::Failed {
+            kind: ErrorKind::NotFound,
+        };
+        let found = reopened(&rt, &path, missing, false);
+        FileLog::of_found(rt, path, options, found, true)
     }
 
     /// A handle of the log in the file that was found, or the error with its path.
@@ -205,8 +234,10 @@ impl<R: Files<File = File> + Clock + RandomSource + AllocGlobal + Drop> FileLog<
         path: String,
         options: FileLogOptions,
         found: Result<FoundLog, FileFault>,
+        only_reads: bool,
     ) -> Result<FileLog<R>, FileLogError>
-        ensures new { IfOk result (λ log. log ≡ new_handle (string_bytes path) options log.header) }
+        ensures new { IfOk result (λ log.
+            log ≡ record (new_handle (string_bytes path) options log.header) { only_reads = only_reads }) }
         ensures err { IfErr result (λ error. error.path ≡ path) }
     {
         let alloc = rt.alloc();
@@ -230,6 +261,8 @@ impl<R: Files<File = File> + Clock + RandomSource + AllocGlobal + Drop> FileLog<
                 tries_from: first_tried(&header),
                 is_locked: false,
                 is_away: false,
+                looks: false,
+                only_reads,
             }),
             Err(fault) => Err(FileLogError::new(path, fault)),
         }
@@ -294,6 +327,17 @@ impl<R> FileLog<R> {
     }
 }
 
+impl<R> FileLog<R> {
+    /// Keeps why the log refused, and tells the same as a log's error. The handle stays of use.
+    fn tell(&mut self, why: FileFault) -> LogError
+        ensures answer { result ≡ log_error_of why }
+        ensures same { self.new ≡ record self.old { fault = Some why } }
+    {
+        self.fault = Some(why);
+        log_error(why)
+    }
+}
+
 impl<R: Files + Clock> FileLog<R> {
     /// Holds the log, and looks whether its file has the path.
     fn try_hold(&mut self) -> Result<(), FileFault>
@@ -304,13 +348,21 @@ impl<R: Files + Clock> FileLog<R> {
           cursor = self.new.cursor;
           is_locked = self.new.is_locked;
           is_away = self.new.is_away;
+          looks = self.new.looks;
         } }
-        ensures not_free { IfSome (why_not_free self.old.cursor.state) (λ why. result ≡ Err why) }
+        ensures unlooks { OnOk result (self.new.looks ≡ false) }
+        ensures not_free { self.old.only_reads ≡ false
+            → IfSome (why_not_free self.old.cursor.state) (λ why. result ≡ Err why) }
+        ensures reads { self.old.only_reads ≡ true → result ≡ Err fault.ReadOnly }
     {
+        if self.only_reads {
+            return Err(FileFault::ReadOnly);
+        }
         let mut medium = LockedFile::new(&self.file);
         let patience = self.options.patience;
         hold(&self.rt, &mut medium, &mut self.cursor, patience)?;
         self.is_locked = true;
+        self.looks = false;
         self.is_away = is_away(&self.rt, &self.path, self.number);
         Ok(())
     }
@@ -366,6 +418,33 @@ impl<R: Files + AllocGlobal> FileLog<R> {
     }
 }
 
+impl<R: Files + AllocGlobal> FileLog<R> {
+    /// The next entry of a log that wasn't looked at, or the log's error, which is kept.
+    fn next_held(&mut self) -> Result<Option<Entry>, LogError>
+        ensures shows { IfOk result (λ found. Shows found self.old.cursor self.new.cursor) }
+        ensures no_mark { IfOk result IsNoMark }
+        ensures whole { IfOk result (λ found. IsPastSnapshot found self.old.header self.old.cursor) }
+        ensures across { IfOk result (λ found. IsNotAcross found self.old.header self.new.cursor) }
+        ensures ok { OnOk result ((self.new.cursor.state ≡ self.old.cursor.state) × (self.new.fault ≡ self.old.fault)) }
+        ensures err { IfErr result (λ e. IsRefused e self.new.fault self.old.cursor.state self.new.cursor.state) }
+        ensures spares { SparesEntries self.old.cursor self.new.cursor }
+        ensures sure { OnErr result (IfSome self.new.fault
+            (λ why. IsSureOfCuts self.old.options.synchronizes why self.old.cursor self.new.cursor)) }
+        ensures position { self.new.cursor.position ≡ self.old.cursor.position }
+        ensures same { self.new ≡ record self.old { cursor = self.new.cursor; fault = self.new.fault } }
+        ensures shown { nat_lt 0 self.new.cursor.found ≡ is_shown result }
+        ensures not_held { IfSome (why_not_held self.old.cursor.state)
+            (λ why. (result ≡ Err (log_error_of why)) × (self.new.cursor ≡ record self.old.cursor { found = 0 })) }
+        ensures away { self.old.is_away ≡ true → IsAwayNext result self.old.cursor self.new.cursor }
+        ensures removed { MeetsNoEntry self.old → IsRemoved result self.new.fault }
+    {
+        match self.try_next() {
+            Ok(found) => Ok(found),
+            Err(why) => Err(self.refuse(why)),
+        }
+    }
+}
+
 impl<R: AllocGlobal> FileLog<R> {
     fn try_append(&mut self, entry: &Entry) -> Result<(), FileFault>
         ensures ok { OnOk result (Appends entry.now self.old.cursor self.new.cursor) }
@@ -403,7 +482,7 @@ impl<R: Files<File = File> + Clock + AllocGlobal> Log for FileLog<R> {
     /// `Busy` where others held it as long as the options allow, and `Damaged` where the file is shorter than what was
     /// taken over of it. Each time it looks whether the file has the log's path. Where it surely hasn't, by a look that
     /// the system permits, the log is held, but not used: `next` and `append` refuse by `Removed` until a later `hold`
-    /// finds that the file has its path back.
+    /// finds that the file has its path back. `Failed`, by `ReadOnly`, where the file was opened to read only.
     fn hold(&mut self) -> Result<(), LogError>
         ensures ok { OnOk result (Holds self.old.cursor self.new.cursor × (self.new.fault ≡ self.old.fault)) }
         ensures err { IfErr result (λ e. IsRefused e self.new.fault self.old.cursor.state self.new.cursor.state) }
@@ -413,18 +492,50 @@ impl<R: Files<File = File> + Clock + AllocGlobal> Log for FileLog<R> {
           fault = self.new.fault;
           is_locked = self.new.is_locked;
           is_away = self.new.is_away;
+          looks = false;
         } }
         ensures away { OnErr result (self.new.is_away ≡ self.old.is_away) }
         ensures locks { OnOk result ((self.old.is_locked ≡ false) × (self.new.is_locked ≡ true)) }
         ensures not_locked { OnErr result (self.new.is_locked ≡ self.old.is_locked) }
 
         // A handle that is used no more stays so.
-        ensures not_free { IfSome (why_not_free self.old.cursor.state)
+        ensures not_free { self.old.only_reads ≡ false → IfSome (why_not_free self.old.cursor.state)
             (λ why. (result ≡ Err (log_error_of why)) × (self.new.cursor ≡ self.old.cursor)) }
+        ensures reads { self.old.only_reads ≡ true
+            → (result ≡ Err LogError.Failed) × (self.new.fault ≡ Some fault.ReadOnly) }
     {
         match self.try_hold() {
             Ok(()) => Ok(()),
-            Err(why) => Err(self.refuse(why)),
+            Err(why) => {
+                self.looks = false;
+                Err(self.refuse(why))
+            }
+        }
+    }
+
+    /// `Busy` where others held it as long as the options allow, and `Damaged` where the file is shorter than what was
+    /// taken over of it. It looks whether the file has the log's path too: where it surely hasn't, `Removed` comes in
+    /// place of the file's end. A file that was opened to read only is looked at as any other.
+    fn look(&mut self) -> Result<(), LogError>
+        ensures ok { OnOk result (LooksAt self.old self.new) }
+        ensures was_free { OnOk result (self.old.is_locked ≡ false) }
+        ensures err { IfErr result (λ e. IsRefused e self.new.fault self.old.cursor.state self.new.cursor.state) }
+        ensures kept { OnErr result (self.new.cursor ≡ record self.old.cursor { state = self.new.cursor.state }) }
+        ensures same { OnErr result (self.new ≡ record self.old {
+          cursor = self.new.cursor;
+          fault = self.new.fault;
+          looks = false;
+        }) }
+        ensures held { self.new.is_locked ≡ self.old.is_locked }
+        ensures not_free { IfSome (why_not_free self.old.cursor.state)
+            (λ why. (result ≡ Err (log_error_of why)) × (self.new.cursor ≡ self.old.cursor)) }
+    {
+        match self.try_look() {
+            Ok(()) => Ok(()),
+            Err(why) => {
+                self.looks = false;
+                Err(self.refuse(why))
+            }
         }
     }
 
@@ -434,28 +545,34 @@ impl<R: Files<File = File> + Clock + AllocGlobal> Log for FileLog<R> {
     ///
     /// Of a file that hadn't the log's path when it was held nothing is cut off, and where no entry and no mark is left
     /// `Failed` comes, by `Removed`.
+    ///
+    /// Where the log was looked at and isn't held, what stood when the file was measured is shown, up to an end that is
+    /// torn, or a mark of a file that has the path. Nothing is cut off, and an error leaves the handle of use: what it
+    /// finds damaged others may have cut off meanwhile.
     fn next(&mut self) -> Result<Option<Entry>, LogError>
-        ensures shows { IfOk result (λ found. Shows found self.old.cursor self.new.cursor) }
+        ensures shows { self.old.looks ≡ false → IfOk result (λ found. Shows found self.old.cursor self.new.cursor) }
+        ensures looks { self.old.looks ≡ true → LooksNext result self.old self.new }
         ensures no_mark { IfOk result IsNoMark }
         ensures whole { IfOk result (λ found. IsPastSnapshot found self.old.header self.old.cursor) }
         ensures across { IfOk result (λ found. IsNotAcross found self.old.header self.new.cursor) }
         ensures ok { OnOk result ((self.new.cursor.state ≡ self.old.cursor.state) × (self.new.fault ≡ self.old.fault)) }
-        ensures err { IfErr result (λ e. IsRefused e self.new.fault self.old.cursor.state self.new.cursor.state) }
+        ensures err { self.old.looks ≡ false
+            → IfErr result (λ e. IsRefused e self.new.fault self.old.cursor.state self.new.cursor.state) }
         ensures spares { SparesEntries self.old.cursor self.new.cursor }
         ensures sure { OnErr result (IfSome self.new.fault
             (λ why. IsSureOfCuts self.old.options.synchronizes why self.old.cursor self.new.cursor)) }
         ensures position { self.new.cursor.position ≡ self.old.cursor.position }
         ensures same { self.new ≡ record self.old { cursor = self.new.cursor; fault = self.new.fault } }
         ensures shown { nat_lt 0 self.new.cursor.found ≡ is_shown result }
-        ensures not_held { IfSome (why_not_held self.old.cursor.state)
+        ensures not_held { self.old.looks ≡ false → IfSome (why_not_held self.old.cursor.state)
             (λ why. (result ≡ Err (log_error_of why)) × (self.new.cursor ≡ record self.old.cursor { found = 0 })) }
         ensures away { self.old.is_away ≡ true → IsAwayNext result self.old.cursor self.new.cursor }
-        ensures removed { MeetsNoEntry self.old → IsRemoved result self.new.fault }
+        ensures removed { self.old.looks ≡ false → MeetsNoEntry self.old → IsRemoved result self.new.fault }
     {
-        match self.try_next() {
-            Ok(found) => Ok(found),
-            Err(why) => Err(self.refuse(why)),
+        if self.looks {
+            return self.next_looking();
         }
+        self.next_held()
     }
 
     /// Only what `next` has found since the log was held is taken over.
@@ -490,6 +607,7 @@ impl<R: Files<File = File> + Clock + AllocGlobal> Log for FileLog<R> {
     {
         let_go(&mut LockedFile::new(&self.file), &mut self.cursor);
         self.is_locked = false;
+        self.looks = false;
     }
 
     /// False where the wait has taken the time that the options allow, and where the clock refuses.
@@ -504,24 +622,26 @@ impl<R: Files<File = File> + Clock + AllocGlobal> Log for FileLog<R> {
         true
     }
 
-    /// Nothing changes but the fault where it is refused. `Failed` where the log isn't held, the file that has the path
-    /// is of another log, or no file has it, and `Busy` where others held it as long as the options allow.
+    /// Nothing changes but the fault where it is refused. `Failed` where the log is neither held nor was looked at, the
+    /// file that has the path is of another log, or no file has it, and `Busy` where others held it as long as the
+    /// options allow.
     fn rejoin(&mut self) -> Result<u64, LogError>
-        ensures ok { IfOk result (λ counter. Rejoins counter self.old self.new) }
+        ensures ok { self.old.looks ≡ false → IfOk result (λ counter. Rejoins counter self.old self.new) }
+        ensures looks { self.old.looks ≡ true → IfOk result (λ counter. LooksElsewhere counter self.old self.new) }
         ensures err { IfErr result (λ e. OnlyRefuses e self.old self.new) }
-        ensures not_held { IfSome (why_not_held self.old.cursor.state)
+        ensures not_held { self.old.looks ≡ false → IfSome (why_not_held self.old.cursor.state)
             (λ why. (result ≡ Err (log_error_of why)) × (self.new.fault ≡ Some why)) }
     {
+        if self.looks {
+            return self.rejoin_looking();
+        }
         match self.located() {
             Ok(found) => {
                 let counter = found.header.counter;
                 self.go_to(found);
                 Ok(counter)
             }
-            Err(why) => {
-                self.fault = Some(why);
-                Err(log_error(why))
-            }
+            Err(why) => Err(self.tell(why)),
         }
     }
 

@@ -157,6 +157,11 @@ impl<R: Clock + AllocGlobal, M: Medium> Log for OneFileLog<R, M> {
         }
     }
 
+    /// `Failed`, since what its file holds is known only as long as it has the lock.
+    fn look(&mut self) -> Result<(), LogError> {
+        Err(LogError::Failed)
+    }
+
     /// Where there is no entry nothing stands behind the position: what a writer left that died is cut off. `Damaged`
     /// where it is nothing that a writer leaves, and `Moved` where a mark stands there. Where the handle synchronizes
     /// and a cut could not be, it is used no more.

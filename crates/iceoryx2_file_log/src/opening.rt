@@ -115,15 +115,17 @@ fn read_header(file: &File) -> Result<Header, FileFault> {
     }
 }
 
-/// Opens the file that was looked up. `None` where it is gone, or another one has its path.
+/// Opens the file that was looked up, to write too where that is wanted. `None` where it is gone, or another one has
+/// its path.
 fn open_found(
     rt: &impl Files<File = File>,
     path: &str,
     number: FileNumber,
+    writes: bool,
 ) -> Result<Option<File>, FileFault>
     ensures { IfErr result IsOfFile }
 {
-    let file = match OpenOptions::new().read(true).write(true).open(rt, path) {
+    let file = match OpenOptions::new().read(true).write(writes).open(rt, path) {
         Ok(file) => file,
         Err(error) => {
             if error.kind() == ErrorKind::NotFound {
@@ -144,11 +146,13 @@ fn open_found(
     }
 }
 
-/// Opens the file that has this path, to read and to write, and gives by which number the system knows it. `None` where
-/// nothing has the path. A symbolic link is not followed, and what is no file is not opened.
+/// Opens the file that has this path, to read, and to write too where that is wanted, and gives by which number the
+/// system knows it. `None` where nothing has the path. A symbolic link is not followed, and what is no file is not
+/// opened.
 pub(crate) fn find_numbered(
     rt: &impl Files<File = File>,
     path: &str,
+    writes: bool,
 ) -> Result<Option<(File, FileNumber)>, FileFault>
     ensures { IfErr result IsOfFile }
 {
@@ -156,7 +160,7 @@ pub(crate) fn find_numbered(
         match looked_up(rt, path)? {
             None => return Ok(None),
             Some(number) => {
-                if let Some(file) = open_found(rt, path, number)? {
+                if let Some(file) = open_found(rt, path, number, writes)? {
                     return Ok(Some((file, number)));
                 }
             }
@@ -172,7 +176,7 @@ pub(crate) fn find_numbered(
 pub fn find_file(rt: &impl Files<File = File>, path: &str) -> Result<Option<File>, FileFault>
     ensures { IfErr result IsOfFile }
 {
-    match find_numbered(rt, path) {
+    match find_numbered(rt, path, true) {
         Ok(None) => Ok(None),
         Ok(Some((file, _))) => Ok(Some(file)),
         Err(fault) => Err(fault),
@@ -301,7 +305,7 @@ pub(crate) fn opened<R: Files<File = File> + RandomSource + AllocGlobal>(
     options: &FileLogOptions,
 ) -> Result<FoundLog, FileFault> {
     for _ in 0..OPENINGS {
-        if let Some((file, number)) = find_numbered(rt, path)? {
+        if let Some((file, number)) = find_numbered(rt, path, true)? {
             return read_found(file, number);
         }
         if let Err(error) = make(rt, path, options) {
@@ -313,13 +317,15 @@ pub(crate) fn opened<R: Files<File = File> + RandomSource + AllocGlobal>(
     })
 }
 
-/// Opens the file of the log that has this path now, or answers this fault where nothing has it.
+/// Opens the file of the log that has this path now, to write too where that is wanted, or answers this fault where
+/// nothing has it.
 pub(crate) fn reopened(
     rt: &impl Files<File = File>,
     path: &str,
     missing: FileFault,
+    writes: bool,
 ) -> Result<FoundLog, FileFault> {
-    match find_numbered(rt, path)? {
+    match find_numbered(rt, path, writes)? {
         Some((file, number)) => read_found(file, number),
         None => Err(missing),
     }

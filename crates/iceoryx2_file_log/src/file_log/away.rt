@@ -1,13 +1,17 @@
-//! A file that has the log's path no more: it was removed or renamed, or another file was renamed over it. Nobody who
-//! opens the log finds it, so nothing is appended to it, and nothing of it is cut off.
+//! Reading a file without the right to write.
+//!
+//! So is one read that has the log's path no more: it was removed or renamed, or another file was renamed over it.
+//! Nobody who opens the log finds it, so nothing is appended to it, and nothing of it is cut off.
 
-ghost use Rattle.std.specs.Prelude.{◌≡◌, ◌≤◌, Err, IfOk, IfSome, length, nat_lt};
+ghost use Rattle.std.specs.Prelude.{◌≡◌, ◌≤◌, Ok, Err, IfOk, IfSome, length, nat_lt};
 ghost use Rattle.iceoryx2_log.specs.Log.{is_shown};
 ghost use Rattle.iceoryx2_file_log.specs.declared.cursor.State.TheVariants as state;
 ghost use Rattle.iceoryx2_file_log.specs.declared.error.FileFault.TheVariants as fault;
 ghost use Rattle.iceoryx2_file_log.specs.Compaction.{snapshot_end};
 ghost use Rattle.iceoryx2_file_log.specs.Place.{left, why_not_held};
 ghost use Rattle.iceoryx2_file_log.specs.Handle.{Shows, IsNoMark, IsPastSnapshot, IsNotAcross, IsAwayNext};
+ghost use Rattle.iceoryx2_file_log.specs.OneFile.{ShowsUnwritten, IsEntryOrPast, entry_of, is_entry};
+ghost use Rattle.iceoryx2_file_log.specs.declared.one_file.Found.TheVariants as there;
 
 use crate::bytes::front_at;
 use crate::compaction::{is_across_end, is_before_end, is_mark};
@@ -15,6 +19,7 @@ use crate::cursor::Cursor;
 use crate::error::FileFault;
 use crate::header::Header;
 use crate::locked_file::LockedFile;
+use crate::one_file::Found;
 use crate::opening::{FileNumber, number_of};
 use crate::remainder::Front;
 use iceoryx2_log::entry::Entry;
@@ -35,21 +40,65 @@ pub(super) fn is_away(rt: &impl Files, path: &str, number: FileNumber) -> bool {
     }
 }
 
-/// Why no entry comes where a mark of so many bytes stands. `Moved` where it is the last entry, and `Damaged` where
-/// more follows, or it stands within a snapshot.
-fn mark_fault(cursor: &Cursor, count: usize, header: &Header) -> FileFault
-    ensures { length cursor.now.ahead ≡ count → left cursor.now ≤ count → snapshot_end header.now ≤ cursor.now.position
-        → result ≡ fault.Moved }
+/// The mark of so many bytes at the position. `Damaged` where it isn't the last entry, or stands within a snapshot.
+fn mark_at(cursor: &Cursor, count: usize, header: &Header) -> Result<Found, FileFault>
+    ensures mark { IfOk result (λ found. found ≡ there.Mark count) }
+    ensures last { IfOk result (λ found. (length cursor.now.ahead ≡ count)
+        × (left cursor.now ≤ length cursor.now.ahead)) }
+    ensures past { IfOk result (λ found. snapshot_end header.now ≤ cursor.now.position) }
 {
     let at = cursor.position();
     if !cursor.ends_after(count) || is_before_end(at, header) {
-        return FileFault::Damaged { at };
+        return Err(FileFault::Damaged { at });
     }
-    FileFault::Moved
+    Ok(Found::Mark { count })
 }
 
-/// The entry at the position of such a file. `Removed` where no more stands there, or what is torn, `Moved` where the
-/// last entry is a mark, and `Damaged` as in any file.
+/// What stands at the position of a file to which nothing is written. What is torn at its end is no entry, and stays
+/// there. A mark comes only as the last entry, behind the snapshot.
+pub(super) fn unwritten(
+    alloc: Global,
+    file: &File,
+    header: &Header,
+    cursor: &mut Cursor,
+) -> Result<Found, FileFault>
+    ensures shows { IfOk result (λ found. ShowsUnwritten found cursor.old cursor.new) }
+    ensures no_mark { IfOk result (λ found. IsNoMark (entry_of found)) }
+    ensures whole { IfOk result (λ found. IsEntryOrPast found header.now cursor.old) }
+    ensures across { IfOk result (λ found. IsNotAcross (entry_of found) header.now cursor.new) }
+    ensures uncut { cursor.new ≡ record cursor.old { ahead = cursor.new.ahead; found = cursor.new.found } }
+    ensures shown { nat_lt 0 cursor.new.found ≡ is_entry result }
+    ensures ends { cursor.old.file_length ≡ cursor.old.position → snapshot_end header.now ≤ cursor.old.position
+        → result ≡ Ok there.End }
+{
+    cursor.find(0);
+    let at = cursor.position();
+    if cursor.is_read() && !is_before_end(at, header) {
+        return Ok(Found::End);
+    }
+    match front_at(&mut LockedFile::new(file), cursor, alloc)? {
+        Front::Whole { entry, count } => {
+            if is_mark(&entry) {
+                return mark_at(cursor, count, header);
+            }
+            if is_across_end(at, cursor.end_of(count), header) {
+                return Err(FileFault::Damaged { at });
+            }
+            cursor.find(count);
+            Ok(Found::Entry(entry))
+        }
+        Front::Torn => {
+            if is_before_end(at, header) {
+                return Err(FileFault::Damaged { at });
+            }
+            Ok(Found::End)
+        }
+        Front::Damaged | Front::Unfinished => Err(FileFault::Damaged { at }),
+    }
+}
+
+/// The entry at the position of a file that has the path no more. `Removed` where no more stands there, or what is
+/// torn, `Moved` where the last entry is a mark, and `Damaged` as in any file.
 pub(super) fn next_away(
     alloc: Global,
     file: &File,
@@ -68,31 +117,13 @@ pub(super) fn next_away(
     ensures removed { cursor.old.state ≡ state.Held → cursor.old.file_length ≡ cursor.old.position
         → snapshot_end header.now ≤ cursor.old.position → result ≡ Err fault.Removed }
 {
-    cursor.find(0);
     if let Some(why) = cursor.why_not_held() {
+        cursor.find(0);
         return Err(why);
     }
-    let at = cursor.position();
-    if cursor.is_read() && !is_before_end(at, header) {
-        return Err(FileFault::Removed);
-    }
-    match front_at(&mut LockedFile::new(file), cursor, alloc)? {
-        Front::Whole { entry, count } => {
-            if is_mark(&entry) {
-                return Err(mark_fault(cursor, count, header));
-            }
-            if is_across_end(at, cursor.end_of(count), header) {
-                return Err(FileFault::Damaged { at });
-            }
-            cursor.find(count);
-            Ok(Some(entry))
-        }
-        Front::Torn => {
-            if is_before_end(at, header) {
-                return Err(FileFault::Damaged { at });
-            }
-            Err(FileFault::Removed)
-        }
-        Front::Damaged | Front::Unfinished => Err(FileFault::Damaged { at }),
+    match unwritten(alloc, file, header, cursor)? {
+        Found::Entry(entry) => Ok(Some(entry)),
+        Found::End => Err(FileFault::Removed),
+        Found::Mark { count: _ } => Err(FileFault::Moved),
     }
 }

@@ -167,7 +167,7 @@ pub(super) fn locate<R: Files<File = File> + Clock>(
         file,
         number,
         header,
-    } = reopened(rt, path, FileFault::Removed)?;
+    } = reopened(rt, path, FileFault::Removed, true)?;
     if header.name != name {
         return Err(FileFault::AnotherLog);
     }
