@@ -71,6 +71,23 @@ pub fn lock<C: Clock, M: Medium>(
     Err(FileFault::Busy)
 }
 
+/// Lets go of the lock of a file that was measured under it, so that it is read while others may have the lock. `Damaged`
+/// where it is shorter than so many bytes.
+pub fn end_measuring<M: Medium>(
+    medium: &mut M,
+    file_length: u64,
+    wanted: u64,
+) -> Result<(), FileFault>
+    ensures lock { IfSome (M.known medium.new) IsFree }
+    ensures ok { OnOk result (wanted ≤ file_length) }
+{
+    medium.unlock();
+    if file_length < wanted {
+        return Err(FileFault::Damaged { at: file_length });
+    }
+    Ok(())
+}
+
 // ---- reading
 
 /// Reads on, from where the file was read to, by at most so many bytes.

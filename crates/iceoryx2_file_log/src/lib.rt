@@ -16,8 +16,10 @@
 //! whether an append stands, each call is refused by that name. Where a handle found when it was held that its file
 //! has the log's path no more, `next` never says that no entry is left, cuts nothing off (`IsAwayNext`), and `Removed`
 //! comes where all is read, and of each append (`IsRemoved`). What a rename has done that reports an error is what the
-//! path then tells (`marking::renamed_though`). Handles begin after the header (`new_handle`); errors of `open` and
-//! `open_existing` have the path; `path::split` is exact.
+//! path then tells (`marking::renamed_though`). A look has the lock only while it measures (`bytes::end_measuring`):
+//! `next` then shows entries up to the length that was measured, and writes nothing (`LooksAt`, `LooksNext`). A handle
+//! that was opened to read only is never held (`ReadsUnlocked`). Handles begin after the header (`new_handle`,
+//! `new_reader`); errors of `open` and its like have the path; `path::split` is exact.
 //!
 //! `bytes` is how a handle locks, reads and writes, over any `Medium`: bytes under a lock, known where they can be
 //! (`Known`). The lock is had only where the medium grants it, what was read ahead stands at the position (`Reading`),

@@ -16,13 +16,12 @@ ghost use Rattle.iceoryx2_file_log.specs.Moving.{LooksElsewhere, OnlyRefuses};
 use super::FileLog;
 use super::away::{is_away, unwritten};
 use super::marking::has_path;
-use crate::bytes::lock;
+use crate::bytes::{end_measuring, lock};
 use crate::compaction::first_tried;
 use crate::cursor::Cursor;
 use crate::error::FileFault;
 use crate::header::{HEADER_LENGTH, Header, LogName};
 use crate::locked_file::LockedFile;
-use crate::medium::Medium;
 use crate::one_file::Found;
 use crate::opening::{FoundLog, reopened};
 use iceoryx2_log::entry::Entry;
@@ -77,10 +76,7 @@ fn measured_there<R: Files<File = File> + Clock>(
     }
     let mut medium = LockedFile::new(&found.file);
     let file_length = lock(rt, &mut medium, patience)?;
-    medium.unlock();
-    if file_length < HEADER_LENGTH as u64 {
-        return Err(FileFault::Damaged { at: file_length });
-    }
+    end_measuring(&mut medium, file_length, HEADER_LENGTH as u64)?;
     Ok((found, file_length))
 }
 
@@ -98,10 +94,7 @@ impl<R: Files + Clock> FileLog<R> {
         let mut medium = LockedFile::new(&self.file);
         let file_length = lock(&self.rt, &mut medium, self.options.patience)?;
         let is_away = is_away(&self.rt, &self.path, self.number);
-        medium.unlock();
-        if file_length < self.cursor.position() {
-            return Err(FileFault::Damaged { at: file_length });
-        }
+        end_measuring(&mut medium, file_length, self.cursor.position())?;
         self.cursor.look(file_length);
         self.looks = true;
         self.is_away = is_away;
