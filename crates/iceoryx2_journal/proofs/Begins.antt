@@ -7,10 +7,10 @@ use Rattle.iceoryx2_world.specs.World.{World}
 use Rattle.iceoryx2_log.specs.Log.{Contents, WhereKnown, Grows}
 use Rattle.iceoryx2_journal.specs.declared.taking.Stop.{Stop}
 use Rattle.iceoryx2_journal.specs.declared.taking.Stop.TheVariants as stop
-use Rattle.iceoryx2_journal.specs.Taking.{ends, IsAllTaken, Reaches, ReachesSome, Stops, seen, unread}
+use Rattle.iceoryx2_journal.specs.Taking.{ends, IsAllTaken, IsCompacted, Reaches, ReachesSome, Stops, seen, unread}
 use Rattle.iceoryx2_journal.specs.Logged.{IsLoggedPart}
 use Rattle.iceoryx2_journal.specs.Journal.{JournalState, is_mine, TakesAll, Fails, barred, stopped, Begins, IsJournalAccess, fails, acts}
-use Rattle.iceoryx2_journal.proofs.Reaching.{reach_not, reach_grown, reach_both}
+use Rattle.iceoryx2_journal.proofs.Reaching.{reach_not, reach_grown, reach_both, reach_compacted, compacted_all}
 
 pub held_not : {nodes : List ℕ} {p : Bool} {w : World} {c d : Option Contents} → d ≡ c → ReachesSome nodes p p stop.Later w w c d
 held_not {nodes} {p} {w} {c} {d} same = record { between = w; reaches = reach_not nodes p w c d same; stops = unread refl refl }
@@ -19,6 +19,9 @@ pub fell_short : {nodes : List ℕ} {p q : Bool} {s : Stop} {u v : World} (b c d
 fell_short {nodes} {p} {q} {s} {u} {v} b c d f grow t same =
     subst (λ x. ReachesSome nodes p q s u v b x) (sym same)
     (record { between = t.between; reaches = reach_grown p q b c d grow t.reaches; stops = t.stops })
+
+pub same_short : {nodes : List ℕ} {p q : Bool} {s : Stop} {u v : World} (c d f : Option Contents) → ReachesSome nodes p q s u v c d → f ≡ d → ReachesSome nodes p q s u v c f
+same_short {nodes} {p} {q} {s} {u} {v} c d f t same = subst (λ x. ReachesSome nodes p q s u v c x) (sym same) t
 
 -- the own nodes, as a slice and as a list
 pub listed_some : {xs nodes : List ℕ} {p q : Bool} {s : Stop} {u v : World} {c d : Option Contents} → xs ≡ nodes → ReachesSome xs p q s u v c d → ReachesSome nodes p q s u v c d
@@ -64,6 +67,53 @@ module _ {L : Type 0} {contents : L → Option Contents} {old mid : JournalState
   acted {j} {new} view false is f part nodes over lost = absurd (cc)
   acted {j} {new} view true is f part nodes over lost =
       acts j f.0 (subst (λ m. TakesAll contents old m) (sym view) f.1) part nodes over lost
+
+-- Entries of others came before all was taken over that can be read, or not all. The state before is seen as j.
+grown_at : {L : Type 0} (contents : L → Option Contents) (j new : JournalState L) (m : L) (b : Bool) → j.is_over ≡ false
+    → WhereKnown Grows (contents j.log) (contents m) → Begins contents true b (record j { log = m }) new → Begins contents true b j new
+grown_at contents j new m true over grow f = (
+  refl,
+  record {
+    takes = reach_grown j.is_lost new.is_lost (contents j.log) (contents m) (contents new.log) grow f.1.takes;
+    all = f.1.all;
+    nodes = f.1.nodes;
+    was_not_over = f.1.was_not_over;
+    is_not_over = f.1.is_not_over;
+    is_not_lost = f.1.is_not_lost;
+  },
+)
+grown_at contents j new m false over grow (barred isnt same) = let may = may_begin true j.is_over refl over in absurd (cc)
+grown_at contents j new m false over grow (stopped w s holds t stops kept ended) =
+    stopped w s holds (reach_grown j.is_lost new.is_lost (contents j.log) (contents m) (contents new.log) grow t) stops kept ended
+
+pub grown_begins : {L : Type 0} (contents : L → Option Contents) {j old : JournalState L} (new : JournalState L) → j ≡ old → (m : L) (b : Bool) → j.is_over ≡ false
+    → WhereKnown Grows (contents j.log) (contents m) → Begins contents true b (record j { log = m }) new → Begins contents true b old new
+grown_begins contents {j} new view m b over grow f = subst (λ o. Begins contents true b o new) view (grown_at contents j new m b over grow f)
+
+-- The log is let go of, or goes on in a new place. The state before is seen as j.
+module _ {L : Type 0} {contents : L → Option Contents} {old mid : JournalState L} where
+  pub freed_still : {j : JournalState L} (n : L) → j ≡ mid → contents n ≡ contents j.log → TakesAll contents old mid → TakesAll contents old (record j { log = n })
+  freed_still {j} n view kept f =
+      let t : TakesAll contents old j = subst (λ k. TakesAll contents old k) (sym view) f in record {
+        takes = subst (λ c. Reaches old.nodes old.is_lost j.is_lost old.world j.world (contents old.log) c) (sym kept) t.takes;
+        all = subst IsAllTaken (sym kept) t.all;
+        nodes = t.nodes;
+        was_not_over = t.was_not_over;
+        is_not_over = t.is_not_over;
+        is_not_lost = t.is_not_lost;
+      }
+
+  pub compacted_still : {j : JournalState L} (n : L) → j ≡ mid → WhereKnown (IsCompacted j.world) (contents j.log) (contents n)
+      → TakesAll contents old mid → TakesAll contents old (record j { log = n })
+  compacted_still {j} n view compacts f =
+      let t : TakesAll contents old j = subst (λ k. TakesAll contents old k) (sym view) f in record {
+        takes = reach_compacted old.is_lost j.is_lost (contents old.log) (contents j.log) (contents n) t.is_not_lost t.takes compacts;
+        all = compacted_all j.world (contents j.log) (contents n) t.all compacts;
+        nodes = t.nodes;
+        was_not_over = t.was_not_over;
+        is_not_over = t.is_not_over;
+        is_not_lost = t.is_not_lost;
+      }
 
 -- All was taken over, and then more may be.
 module _ {L : Type 0} {contents : L → Option Contents} {old mid new : JournalState L} where

@@ -149,24 +149,55 @@ impl<L: Log> Journal<L> {
         let Ok(_) = self.pen.log.hold() else {
             return false;
         };
-        let alloc = *self.nodes.allocator();
+        if !self.take_in() {
+            return false;
+        }
+        compact(*self.nodes.allocator(), &self.world, &mut self.pen.log);
+        true
+    }
+
+    // Takes over what others appended, of a log that is held or was looked at. False where that isn't all, and then the
+    // log isn't held.
+    fn take_in(&mut self) -> bool
+        requires { self.old.is_over ≡ false }
+        ensures takes { Begins L.contents true result self.old self.new }
+        ensures free { result ≡ false → L.held self.new.log ≡ false }
+    {
         match take_over(
-            alloc,
+            *self.nodes.allocator(),
             &mut self.world,
             &mut self.pen.log,
             &self.nodes,
             &mut self.is_lost,
         ) {
-            Ok(()) => {
-                compact(alloc, &self.world, &mut self.pen.log);
-                true
-            }
+            Ok(()) => true,
             Err(stop) => {
                 self.is_over = stop.ends();
                 self.pen.log.let_go();
                 false
             }
         }
+    }
+
+    /// Takes over what others had appended when the log was measured, and reads it while others may go on. Answers
+    /// whether that was all. Else as `catch_up`. Compacts nothing.
+    pub fn look(&mut self) -> bool
+        ensures takes { Begins L.contents true result self.old self.new }
+        ensures hold { KeepsHold L.held self.old self.new }
+        ensures kept { Rely (is_own self.old.nodes) self.old.world self.new.world }
+        ensures nodes { self.new.nodes ≡ self.old.nodes }
+    {
+        if self.is_over {
+            return false;
+        }
+        let Ok(_) = self.pen.log.look() else {
+            return false;
+        };
+        if !self.take_in() {
+            return false;
+        }
+        self.pen.log.let_go();
+        true
     }
 
     /// Takes over what others appended, and answers whether that was all. It isn't where the log can't be held or read,

@@ -1,6 +1,6 @@
-use Rattle.std.proofs.Common.{refl, sym}
-use Rattle.iceoryx2_journal.proofs.Begins.{held_not, fell_short, listed_some, listed_over, not_mine, over_then, may_begin, barred_from, stopped_from, all_from}
-use Rattle.iceoryx2_journal.proofs.Reaching.{reach_grown, reach_compacted, compacted_all}
+use Rattle.std.proofs.Common.{refl, sym, subst, true, false}
+use Rattle.iceoryx2_journal.specs.Journal.{Begins}
+use Rattle.iceoryx2_journal.proofs.Begins.{held_not, not_mine, over_then, may_begin, barred_from, stopped_from, grown_begins, compacted_still}
 use Rattle.iceoryx2_journal.proofs.journal.Journal.begin.Goals as goal
 
 pub returns-then-not-mine-clause-begins : goal.returns-then-not-mine-clause-begins
@@ -14,14 +14,12 @@ returns-in_default-clause-begins g c =
     let may = may_begin c.args.mine c.self.inside.is_over c.if-not-mine.false c.if-self.false in
     stopped_from c.self.view_is may (held_not c.in_default.ensures.err) refl c.if-self.false
 
-pub returns-in-Ok-take_over-clause-begins : goal.returns-in-Ok-take_over-clause-begins
-returns-in-Ok-take_over-clause-begins g c =
-    let t = c.in-Ok-take_over.ensures in
-    let lost = c.take_over.new.is_lost in
-    let over = listed_over c.deref.ensures.value (reach_grown c.self.inside.is_lost lost _ _ _ c.in-Ok.ensures.ok t.0) in
-    all_from c.self.view_is c.if-not-mine.false c.if-self.false (reach_compacted c.self.inside.is_lost lost _ _ _ t.2 over c.compact.ensures) (compacted_all c.take_over.new.world _ _ t.1 c.compact.ensures) refl refl t.2
+pub returns-then-not-take_in-clause-begins : goal.returns-then-not-take_in-clause-begins
+returns-then-not-take_in-clause-begins g c =
+    subst (λ m. Begins g.L.Log.contents m false c.args.self.now c.take_in.new.self) (sym c.if-not-mine.false)
+    (grown_begins g.L.Log.contents c.take_in.new.self c.self.view_is _ false c.if-self.false c.in-Ok.ensures.ok c.if-not-take_in.ensures.takes)
 
-pub returns-in-Err-clause-begins : goal.returns-in-Err-clause-begins
-returns-in-Err-clause-begins g c =
-    let may = may_begin c.args.mine c.self.inside.is_over c.if-not-mine.false c.if-self.false in
-    stopped_from c.self.view_is may (listed_some c.deref.ensures.value (fell_short _ _ _ _ c.in-Ok.ensures.ok c.in-Err.ensures c.let_go.ensures.same)) refl c.ends-self-inside.ensures
+pub returns-clause-begins : goal.returns-clause-begins
+returns-clause-begins g c =
+    let t = grown_begins g.L.Log.contents c.take_in.new.self c.self.view_is _ true c.if-self.false c.in-Ok.ensures.ok c.if-not-take_in.ensures.takes in
+    (c.if-not-mine.false, compacted_still _ c.self-2.view_is c.compact.ensures t.1)
