@@ -21,6 +21,8 @@ mod existing_logs;
 #[cfg(test)]
 mod file_logs;
 #[cfg(test)]
+mod looks;
+#[cfg(test)]
 mod lost_paths;
 #[cfg(test)]
 mod media;

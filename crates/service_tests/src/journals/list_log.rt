@@ -25,8 +25,8 @@ pub struct ListLog {
     taken: usize,
     is_held: bool,
     is_shown: bool,
-    /// How many of the place's entries stood when it was looked at, where it isn't held since and was not let go of. All
-    /// do in a place that isn't the last.
+    /// How many of the place's entries stood when it was looked at, up to the next hold. A place that isn't the last one
+    /// has no bound.
     looked_to: Option<usize>,
     /// How many entries a place has at least that is long.
     long_from: usize,
