@@ -7,6 +7,7 @@ ghost use Rattle.std.specs.Prelude.{◌≡◌, ◌≤◌, Ok, Err, IfOk, IfSome,
 ghost use Rattle.iceoryx2_log.specs.Log.{is_shown};
 ghost use Rattle.iceoryx2_file_log.specs.declared.cursor.State.TheVariants as state;
 ghost use Rattle.iceoryx2_file_log.specs.declared.error.FileFault.TheVariants as fault;
+ghost use Rattle.iceoryx2_file_log.specs.Bytes.{Reading};
 ghost use Rattle.iceoryx2_file_log.specs.Compaction.{snapshot_end};
 ghost use Rattle.iceoryx2_file_log.specs.Place.{left, why_not_held};
 ghost use Rattle.iceoryx2_file_log.specs.Handle.{Shows, IsNoMark, IsPastSnapshot, IsNotAcross, IsAwayNext};
@@ -19,6 +20,7 @@ use crate::cursor::Cursor;
 use crate::error::FileFault;
 use crate::header::Header;
 use crate::locked_file::LockedFile;
+use crate::medium::Medium;
 use crate::one_file::Found;
 use crate::opening::{FileNumber, number_of};
 use crate::remainder::Front;
@@ -56,12 +58,16 @@ fn mark_at(cursor: &Cursor, count: usize, header: &Header) -> Result<Found, File
 
 /// What stands at the position of a file to which nothing is written. What is torn at its end is no entry, and stays
 /// there. A mark comes only as the last entry, behind the snapshot.
-pub(super) fn unwritten(
+pub(super) fn unwritten<M: Medium>(
     alloc: Global,
-    file: &File,
+    medium: &mut M,
     header: &Header,
     cursor: &mut Cursor,
 ) -> Result<Found, FileFault>
+    requires { IfSome (M.known medium.old) (Reading cursor.old) }
+
+    // No byte is written or cut off.
+    ensures unwritten { M.known medium.new ≡ M.known medium.old }
     ensures shows { IfOk result (λ found. ShowsUnwritten found cursor.old cursor.new) }
     ensures no_mark { IfOk result (λ found. IsNoMark (entry_of found)) }
     ensures whole { IfOk result (λ found. IsEntryOrPast found header.now cursor.old) }
@@ -76,7 +82,7 @@ pub(super) fn unwritten(
     if cursor.is_read() && !is_before_end(at, header) {
         return Ok(Found::End);
     }
-    match front_at(&mut LockedFile::new(file), cursor, alloc)? {
+    match front_at(medium, cursor, alloc)? {
         Front::Whole { entry, count } => {
             if is_mark(&entry) {
                 return mark_at(cursor, count, header);
@@ -121,7 +127,7 @@ pub(super) fn next_away(
         cursor.find(0);
         return Err(why);
     }
-    match unwritten(alloc, file, header, cursor)? {
+    match unwritten(alloc, &mut LockedFile::new(file), header, cursor)? {
         Found::Entry(entry) => Ok(Some(entry)),
         Found::End => Err(FileFault::Removed),
         Found::Mark { count: _ } => Err(FileFault::Moved),

@@ -47,7 +47,7 @@ fn next_unheld<R: Files + AllocGlobal>(
     ensures uncut { cursor.new ≡ record cursor.old { ahead = cursor.new.ahead; found = cursor.new.found } }
     ensures shown { nat_lt 0 cursor.new.found ≡ is_shown result }
 {
-    match unwritten(rt.alloc(), file, header, cursor)? {
+    match unwritten(rt.alloc(), &mut LockedFile::new(file), header, cursor)? {
         Found::Entry(entry) => Ok(Some(entry)),
         Found::End => Ok(None),
         Found::Mark { count: _ } => {
