@@ -198,7 +198,10 @@ impl Log for ListLog {
         };
         self.place = all.len().saturating_sub(1);
         if !self.is_held {
-            self.looked_to = Some(self.length()?);
+            self.looked_to = Some(match all.get(self.place) {
+                Some(here) => here.entries.len(),
+                None => 0,
+            });
         }
         self.taken = 0;
         self.is_shown = false;
