@@ -52,18 +52,24 @@ fn worked<L: Log + Drop>(rt: &impl Abort, alloc: Global, log: L, schedule: u64) 
     journal
 }
 
-/// Whether it is over, and what it lists, of a process with this node that finds that the log has moved to such a place.
+/// Whether it is over, and what it lists, of a process with this node that finds that the log has moved to such a place,
+/// where it looks, or holds it.
 fn found_moved(
     rt: &impl Abort,
     alloc: Global,
     node: u64,
     entries: Vec<Entry>,
     snapshot_length: usize,
+    looks: bool,
 ) -> (bool, Vec<listing::Entry>) {
     let log = PlacedLog::moved(alloc, entries, snapshot_length);
     let nodes = granted(rt, [node].to_vec(alloc));
     let mut journal = Journal::starting_at(alloc, log, nodes, 0);
-    journal.refresh();
+    let _ = if looks {
+        journal.look()
+    } else {
+        journal.catch_up()
+    };
     (journal.is_over(), granted(rt, journal.list()))
 }
 
@@ -89,9 +95,10 @@ fn a_moved_log_comes_to_the_same_unless_it_has_an_own_node(rt: HostRuntime) {
             moved = moved.saturating_add(1);
         }
         let wanted = (false, granted(&rt, journal.list()));
-        let found = found_moved(&rt, alloc, 11, copies(&rt, alloc, entries), length);
+        let looks = schedule % 2 == 0;
+        let found = found_moved(&rt, alloc, 11, copies(&rt, alloc, entries), length, looks);
         assert_same(&rt, (schedule, found), (schedule, wanted));
-        let found = found_moved(&rt, alloc, 1, copies(&rt, alloc, entries), length);
+        let found = found_moved(&rt, alloc, 1, copies(&rt, alloc, entries), length, looks);
         let has_own = has_entry_of(1, entries);
         assert_same(&rt, (schedule, found.0), (schedule, has_own));
         if has_own {
