@@ -71,8 +71,8 @@ pub fn lock<C: Clock, M: Medium>(
     Err(FileFault::Busy)
 }
 
-/// Lets go of the lock of a file that was measured under it, so that it is read while others may have the lock. `Damaged`
-/// where it is shorter than so many bytes.
+/// Lets go of the lock of a file that was measured under it, so that it is read while others may have the lock.
+/// `Damaged` where it is shorter than so many bytes.
 pub fn end_measuring<M: Medium>(
     medium: &mut M,
     file_length: u64,

@@ -10,8 +10,11 @@
 //! meanwhile leaves one of both files as the log: the old one, where a mark that is its last entry is cut off as long
 //! as it has the path itself, or the new one.
 //!
-//! Each hold looks whether the file has the path. One that was removed or renamed nobody else finds: the handle reads
-//! it to its end, and refuses then (`away`).
+//! `look` takes the lock only to measure the file. Then `next` reads up to that length while others may have the lock,
+//! and writes nothing (`looking`).
+//!
+//! Each hold and each look finds whether the file has the path. One that was removed or renamed nobody else finds: the
+//! handle reads it to its end, and refuses then (`away`).
 
 ghost use Rattle.std.specs.Prelude.{◌≡◌, ◌≤◌, ◌<◌, ◌⊎◌, ◌↔◌, ◌++◌, List, ℕ, length, None, Some, Ok, Err};
 ghost use Rattle.std.specs.Prelude.{IfOk, IfErr, OnOk, OnErr, IfSome, IsTrue, true, false, nat_lt, string_bytes};

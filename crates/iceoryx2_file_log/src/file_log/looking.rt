@@ -1,7 +1,9 @@
 //! Reading what stood in the file when it was measured, though the log isn't held. Nothing is written meanwhile.
 //!
-//! Others may append behind the measured end. What a writer left there that died they may cut off, and write over: so
-//! damage that is found without the lock is told, and the handle stays of use.
+//! Others may append behind the measured end, which changes nothing before it. Only if a writer died, and left a torn
+//! entry or a mark before that end, may others cut that off and write over it. A reader can meet both halves then: so
+//! damage that is found without the lock is told, and the handle stays of use. Such a reader may also take over an
+//! entry that its writer takes back, because it couldn't be synchronized. No proof excludes that.
 
 ghost use Rattle.std.specs.Prelude.{◌≡◌, ◌≤◌, Err, IfOk, IfErr, IfSome, OnOk, OnErr, true, false, nat_lt};
 ghost use Rattle.iceoryx2_log.specs.Log.{is_shown};
