@@ -91,7 +91,7 @@ fn assert_standing(rt: &impl Abort, alloc: Global, places: &Places, listing: &[l
     }
 }
 
-/// Ends a test where a process that has read as far lists something else.
+/// Ends a test where a process that has read as far lists something else. It reads as far by a look or a hold.
 fn assert_listings(
     rt: &impl Abort,
     alloc: Global,
@@ -100,7 +100,11 @@ fn assert_listings(
     table: &Recording,
 ) {
     for process in processes {
-        process.journal.refresh();
+        let _ = if place.1 % 2 == 0 {
+            process.journal.look()
+        } else {
+            process.journal.catch_up()
+        };
         let found = granted(rt, process.journal.list());
         assert_standing(rt, alloc, &process.places, &found);
         let wanted = granted(rt, Plain::list(&table.table));
