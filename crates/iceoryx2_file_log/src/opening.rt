@@ -171,12 +171,12 @@ pub(crate) fn find_numbered(
     })
 }
 
-/// Opens the file that has this path, to read and to write, or `None` where nothing has it. A symbolic link is not
-/// followed, and what is no file is not opened.
+/// Opens the file that has this path, to read only, or `None` where nothing has it. A symbolic link is not followed, and
+/// what is no file is not opened.
 pub fn find_file(rt: &impl Files<File = File>, path: &str) -> Result<Option<File>, FileFault>
     ensures { IfErr result IsOfFile }
 {
-    match find_numbered(rt, path, true) {
+    match find_numbered(rt, path, false) {
         Ok(None) => Ok(None),
         Ok(Some((file, _))) => Ok(Some(file)),
         Err(fault) => Err(fault),
@@ -234,7 +234,7 @@ fn make_file<R: Files<File = File> + RandomSource + AllocGlobal>(
     }
 }
 
-/// Opens the file of this path, and makes an empty one of this mode where nothing has it.
+/// Opens the file of this path, to read and to write, and makes an empty one of this mode where nothing has it.
 pub fn find_or_make_file<R: Files<File = File> + RandomSource + AllocGlobal>(
     rt: &R,
     path: &str,
@@ -243,7 +243,7 @@ pub fn find_or_make_file<R: Files<File = File> + RandomSource + AllocGlobal>(
     ensures { IfErr result IsOfFile }
 {
     for _ in 0..OPENINGS {
-        if let Some(file) = find_file(rt, path)? {
+        if let Some((file, _)) = find_numbered(rt, path, true)? {
             return Ok(file);
         }
         if let Err(error) = make_file(rt, path, &[], mode) {
