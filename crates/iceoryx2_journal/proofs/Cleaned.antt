@@ -72,11 +72,11 @@ other_release : {i : ℕ} (f : Registered) (t : ℕ) (h : ServiceHash) (n : ℕ)
 other_release f t h n (Ok a) other = λ same is hash number. other (sym is)
 other_release f t h n (Err e) other = tt
 
-removal_spares : (f : Registered) (i : ℕ) (b : Bool) (h : ServiceHash) (a : Result (Unit {0}) RemoveError) → Spares f (if b then letter.RemoveSegment i h a else letter.RemoveDescription i h a)
+pub removal_spares : (f : Registered) (i : ℕ) (b : Bool) (h : ServiceHash) (a : Result (Unit {0}) RemoveError) → Spares f (if b then letter.RemoveSegment i h a else letter.RemoveDescription i h a)
 removal_spares f i true h a = tt
 removal_spares f i false h a = tt
 
-gives_spares : (i : ℕ) (x : Holding) (l : Letter) (f : Registered) → f.node ≢ i → GivesUp i x l → Spares f l
+pub gives_spares : (i : ℕ) (x : Holding) (l : Letter) (f : Registered) → f.node ≢ i → GivesUp i x l → Spares f l
 gives_spares i (holding.Ticket t h n) l f other g = subst (Spares f) (sym g.1) (other_release f t h n g.0 other)
 gives_spares i (holding.Service h p) l f other g = subst (Spares f) (sym g.1) (removal_spares f i (has_segment p) h g.0)
 gives_spares i (holding.Tag h) l f other g = subst (Spares f) (sym g.1) tt

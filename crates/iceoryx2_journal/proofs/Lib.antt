@@ -16,4 +16,6 @@ pub mod Amounts
 pub mod Processes
 pub mod GivingBack
 pub mod Cleaned
+pub mod FindingOwed
 pub mod Lives
+pub mod Settled

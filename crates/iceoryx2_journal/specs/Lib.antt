@@ -5,6 +5,7 @@ pub mod Pen
 pub mod Logged
 pub mod Journal
 pub mod Cleaning
+pub mod Owed
 pub mod Replay
 pub mod Laws
 pub mod Processes

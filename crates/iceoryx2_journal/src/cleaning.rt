@@ -146,7 +146,7 @@ pub(crate) fn has_segment(phase: Phase) -> bool
 }
 
 // Something that was removed, where that was granted.
-fn thing(removed: Result<(), RemoveError>) -> Option<GivenBack>
+pub(crate) fn thing(removed: Result<(), RemoveError>) -> Option<GivenBack>
     ensures { result ≡ if_granted given.Thing removed }
 {
     match removed {

@@ -282,7 +282,7 @@ impl<L: Log> Journal<L> {
 impl<L: SpansCalls> Journal<L> {
     /// A call of several accesses begins: up to `end_call` its first access takes the log for all of them, and where that
     /// is refused all are. Without it each access takes the log by itself, and where others keep it in between, a call
-    /// may be refused after some of its accesses: what it leaves then stays until its node is cleaned.
+    /// may be refused after some of its accesses: what it leaves then stays until its node settles or is cleaned.
     pub fn begin_call(&mut self)
         ensures spans { Spans L.contents self.old self.new }
         ensures hold { KeepsHold L.held self.old self.new }

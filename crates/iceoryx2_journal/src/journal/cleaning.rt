@@ -1,15 +1,21 @@
 //! Cleaning up for a node, and nodes that become own ones.
 
-ghost use Rattle.std.specs.Prelude.{◌≡◌, None, OnErr, OnOk, ◌++◌, ◌∷◌, []};
+ghost use Rattle.std.specs.Prelude.{◌≡◌, None, OnErr, OnOk, ◌++◌, ◌∷◌, [], true};
+ghost use Rattle.iceoryx2_access.specs.Registered.{Registered};
+ghost use Rattle.iceoryx2_world.specs.Across.{Agrees};
 ghost use Rattle.iceoryx2_world.specs.Interference.{Rely};
+ghost use Rattle.iceoryx2_world.specs.Standing.{Stands};
 ghost use Rattle.iceoryx2_table.specs.Holdings.{IsHolding};
 ghost use Rattle.iceoryx2_journal.specs.Cleaning.{Adopts, Cleans, CleansNext, CleansAll};
+ghost use Rattle.iceoryx2_journal.specs.Owed.{SettlesBy, SettlesNext, SettlesInWorld};
+ghost use Rattle.iceoryx2_journal.specs.Owed.{IsSpared, OwesNothing, others_own};
 ghost use Rattle.iceoryx2_journal.specs.Replay.{Lives};
-ghost use Rattle.iceoryx2_journal.specs.Journal.{KeepsHold};
+ghost use Rattle.iceoryx2_journal.specs.Journal.{IsJournalAccess, KeepsHold};
 ghost use Rattle.iceoryx2_journal.specs.Taking.{is_own};
 
 use super::Journal;
 use crate::cleaning::{AdoptError, CleanError, Cleaned, Step, give_back, step_of};
+use crate::owed::{give_back_by, owed};
 use iceoryx2_log::log::Log;
 
 impl<L: Log> Journal<L> {
@@ -90,5 +96,65 @@ impl<L: Log> Journal<L> {
             return Step::Finished;
         };
         step_of(give_back(&mut self.world, &mut self.pen, node, held))
+    }
+
+    /// Gives back what an own node has besides the factories with these tickets, by accesses of its own: each other
+    /// ticket, each service that it was creating or had to remove, and each tag for a service for which it has no
+    /// ticket then. A call of the node that was refused between two of its accesses may have left these.
+    ///
+    /// `Refused` where the log refused, or the node isn't an own one and has something to give back. What was given
+    /// back before stays so, and it can be done again.
+    pub fn settle(&mut self, node: u64, spared: &[u64]) -> Result<Cleaned, CleanError>
+        // Each access gives something back that the node owes, and of these the last one may be refused.
+        ensures settles { SettlesBy node spared.now (λ j. j.world) (IsJournalAccess L.contents) result
+            self.old self.new }
+        ensures in_world { SettlesInWorld (is_own self.old.nodes) node spared.now result
+            self.old.world self.new.world }
+
+        // At Ok the node owes nothing any more.
+        ensures rest { OnOk result (OwesNothing self.new.world node spared.now) }
+
+        // Each factory of an own node stands as before, unless it is this node's with a ticket that isn't spared.
+        ensures stands { (f : Registered) → is_own self.old.nodes f.node ≡ true → IsSpared node spared.now f
+            → Agrees self.old.world → Stands self.old.world f → Stands self.new.world f }
+
+        // All is kept that the other own nodes rely on.
+        ensures kept { Rely (others_own (is_own self.old.nodes) node) self.old.world self.new.world }
+        ensures agrees { Agrees self.old.world → Agrees self.new.world }
+        ensures nodes { self.new.nodes ≡ self.old.nodes }
+        ensures hold { KeepsHold L.held self.old self.new }
+        ensures lives { Lives L.contents self.old self.new }
+    {
+        self.settle_all(node, spared)
+    }
+
+    // Does so, one thing after the other.
+    fn settle_all(&mut self, node: u64, spared: &[u64]) -> Result<Cleaned, CleanError>
+        ensures settles { SettlesBy node spared.now (λ j. j.world) (IsJournalAccess L.contents) result
+            self.old self.new }
+        ensures rest { OnOk result (OwesNothing self.new.world node spared.now) }
+        ensures hold { KeepsHold L.held self.old self.new }
+    {
+        let mut cleaned = Cleaned::nothing();
+        for _ in 0..u64::MAX {
+            match self.settle_next(node, spared) {
+                Step::Gave(given) => cleaned = cleaned.with(given),
+                Step::Finished => return Ok(cleaned),
+                Step::Refused => return Err(CleanError::Refused),
+            }
+        }
+        Err(CleanError::Refused)
+    }
+
+    // Gives one thing back that the node owes.
+    fn settle_next(&mut self, node: u64, spared: &[u64]) -> Step
+        ensures next { SettlesNext node spared.now (λ j. j.world) (IsJournalAccess L.contents) result
+            self.old self.new }
+        ensures hold { KeepsHold L.held self.old self.new }
+    {
+        let Some(held) = owed(&self.world, node, spared) else {
+            return Step::Finished;
+        };
+        step_of(give_back_by(self, node, held))
     }
 }
