@@ -76,6 +76,13 @@ impl Registration {
         self.number
     }
 
+    /// The node's ticket for the service.
+    pub fn ticket(&self) -> u64
+        ensures { result ≡ self.now.ticket }
+    {
+        self.ticket
+    }
+
     /// The service's description.
     pub fn description(&self) -> &StaticConfig
         ensures { result.now ≡ self.now.description }
