@@ -12,3 +12,5 @@ pub mod Finishing
 pub mod Finished
 pub mod Promised
 pub mod Held
+pub mod Settling
+pub mod Gathering

@@ -107,7 +107,8 @@ impl<S: WorldStorage> Session<S> {
     ghost use Rattle.iceoryx2_session.specs.Promised.{CallsAsPromisedInWorld};
     ghost use Rattle.iceoryx2_session.specs.SessionStates.{own_nodes, own_state, world_state};
     ghost use Rattle.iceoryx2_session.specs.Sessions.{ClosesSlotsBy, ClosesSlotsInWorld, AppliesBy, AppliesInWorld};
-    ghost use Rattle.iceoryx2_session.specs.Slots.{held_at};
+    ghost use Rattle.iceoryx2_session.specs.Slots.{held_at, tickets_of};
+    ghost use Rattle.iceoryx2_journal.specs.Owed.{SettlesInWorld, others_own};
     ghost use Rattle.iceoryx2_session.specs.StandingSlots.{AppliesStandingInWorld, IsOfOwn, OwnsTicketsInWorld};
     ghost use Rattle.iceoryx2_session.specs.StandingSlots.{SlotsStandInWorld};
 
@@ -362,6 +363,43 @@ impl<S: WorldStorage> Session<S> {
             → OwnsTicketsInWorld own (world_state S.world self.new) }
     {
         self.storage.clean(node)
+    }
+
+    /// Gives back what an own node has besides the factories of the slots, by accesses of its own: what its calls left
+    /// that were refused between two of their accesses. It can be done between any two commands, and before the end.
+    ///
+    /// `Refused` where what the storage stands on refused; it can be done again then.
+    pub fn settle(&mut self, node: u64) -> Result<Cleaned, CleanError>
+        // The slots hold what they held.
+        ensures slots { own_state self.new
+            ≡ record (own_state self.old) { table = (own_state self.new).table } }
+
+        // Which nodes are own stays as it was,
+        ensures nodes { own_nodes S.own self.new ≡ own_nodes S.own self.old }
+
+        // and all that the other ones rely on is kept.
+        ensures kept { Rely (others_own (own_nodes S.own self.old) node)
+            (world_state S.world self.old).table (world_state S.world self.new).table }
+
+        // Each access gives something back that the node has besides the factories of the slots, or is refused.
+        ensures gives { SettlesInWorld (own_nodes S.own self.old) node (tickets_of (own_state self.old).slots) result
+            (world_state S.world self.old).table (world_state S.world self.new).table }
+        ensures after { S.settles (own_state self.old).table (own_state self.new).table }
+
+        // At Ok it has nothing besides.
+        ensures rest { OnOk result
+            (S.is_settled (own_state self.new).table node (tickets_of (own_state self.old).slots)) }
+
+        // The world agrees afterwards where it agreed,
+        ensures agrees { Agrees (world_state S.world self.old).table → Agrees (world_state S.world self.new).table }
+
+        // and there the factories of all slots stand as before.
+        ensures stands { let own = own_nodes S.own self.old in
+            Agrees (world_state S.world self.old).table → SlotsStandInWorld own (world_state S.world self.old)
+            → SlotsStandInWorld own (world_state S.world self.new) }
+    {
+        let (tickets, count) = self.slots.tickets();
+        self.storage.settle(node, &tickets[..count])
     }
 
     /// The storage, for its readers.

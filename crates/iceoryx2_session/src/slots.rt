@@ -1,6 +1,7 @@
 //! The places for what a session's factories hold.
 
-ghost use Rattle.std.specs.Prelude.{◌≡◌, ◌<◌, slice_set, slice_get, Some, None, MatchBool, replicate, length};
+ghost use Rattle.std.specs.Prelude.{◌≡◌, ◌<◌, ◌≤◌, slice_set, slice_get, Some, None, MatchBool, replicate, length};
+ghost use Rattle.std.specs.Prelude.{take};
 
 use iceoryx2_commands::command::SLOTS;
 use iceoryx2_rounds::port_factory::Registration;
@@ -49,7 +50,7 @@ fn abandon_all(places: [Option<Registration>; SLOTS]) {
 impl Slots {
     ghost use Rattle.iceoryx2_commands.specs.Commands.{slot_count};
     ghost use Rattle.std.specs.Prelude.{is_some, option_copied};
-    ghost use Rattle.iceoryx2_session.specs.Slots.{FreeAt, TakenAt, held_at};
+    ghost use Rattle.iceoryx2_session.specs.Slots.{FreeAt, TakenAt, held_at, tickets_of};
 
     /// Slots that are all free.
     pub fn new() -> Slots
@@ -90,6 +91,22 @@ impl Slots {
             Some(_) => true,
             None => false,
         }
+    }
+
+    /// The tickets of the factories that the slots hold, in front, and how many they are.
+    pub fn tickets(&self) -> ([u64; SLOTS], usize)
+        ensures tickets { take result.1 result.0 ≡ tickets_of self.now }
+        ensures count { result.1 ≤ slot_count }
+    {
+        let mut tickets = [0; SLOTS];
+        let mut count = 0;
+        for place in &self.places {
+            if let Some(registration) = place {
+                tickets[count] = registration.ticket();
+                count += 1;
+            }
+        }
+        (tickets, count)
     }
 
     /// What the slot holds. It is free then.

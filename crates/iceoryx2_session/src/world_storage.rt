@@ -1,11 +1,12 @@
 //! Storages that show a world: tables, journals, and those that trace one.
 
-ghost use Rattle.std.specs.Prelude.{◌≡◌, ℕ, Bool, false, IfOk, None, OnOk};
+ghost use Rattle.std.specs.Prelude.{◌≡◌, ℕ, Bool, List, false, IfOk, None, OnOk};
 ghost use Rattle.iceoryx2_access.specs.Letter.{Letter};
 ghost use Rattle.iceoryx2_world.specs.World.{World};
 ghost use Rattle.iceoryx2_world.specs.Listing.{Lists};
 ghost use Rattle.iceoryx2_world.specs.Interference.{Rely, IsFallibleUnder};
 ghost use Rattle.iceoryx2_table.specs.Holdings.{IsHolding};
+ghost use Rattle.iceoryx2_journal.specs.Owed.{SettlesInWorld};
 
 use iceoryx2_access::storage::Storage;
 use iceoryx2_journal::cleaning::{CleanError, Cleaned};
@@ -40,6 +41,22 @@ pub trait WorldStorage: Storage {
         ensures kept { Rely (own self.old) (world self.old) (world self.new) }
         ensures same { own self.new ≡ own self.old }
         ensures gone { OnOk result (IsHolding (world self.new) node None) };
+
+    /// What giving back of an own node changes.
+    ghost settles: { Self → Self → Type 0 };
+
+    /// What is so of a node that has given all back besides the factories with these tickets.
+    ghost is_settled: { Self → ℕ → List ℕ → Type 0 };
+
+    /// Gives back what an own node has besides the factories with these tickets, by accesses of its own. A call of the
+    /// node that was refused between two of its accesses may have left it.
+    ///
+    /// `Refused` where what the storage stands on refused; it can be done again then.
+    fn settle(&mut self, node: u64, spared: &[u64]) -> Result<Cleaned, CleanError>
+        ensures gives { SettlesInWorld (own self.old) node spared.now result (world self.old) (world self.new) }
+        ensures same { own self.new ≡ own self.old }
+        ensures after { settles self.old self.new }
+        ensures rest { OnOk result (is_settled self.new node spared.now) };
 
     /// Whether a call has begun, for which others may have to wait.
     ghost in_call: { Self → Bool };
@@ -92,6 +109,10 @@ impl<W: OwnParts> WorldStorage for TableOver<W> {
 
     ghost keeps_own = { λ old letter new access. refl };
 
+    ghost settles = { λ old new. new ≡ old };
+
+    ghost is_settled = { λ table node spared. Unit {0} };
+
     ghost in_call = { λ table. false };
 
     ghost spans = { λ old new. new ≡ old };
@@ -111,6 +132,15 @@ impl<W: OwnParts> WorldStorage for TableOver<W> {
         Err(CleanError::IsOwn)
     }
 
+    // It refuses no access for want of anything but memory, and none that gives back. So a call leaves nothing.
+    #[tactic(auto, using(iceoryx2_journal::proofs::Settled::none_settled))]
+    fn settle(&mut self, _node: u64, _spared: &[u64]) -> Result<Cleaned, CleanError> {
+        Ok(Cleaned {
+            releases: 0,
+            removals: 0,
+        })
+    }
+
     fn list(&self) -> Result<Vec<Entry>, AllocError> {
         TableOver::list(self)
     }
@@ -120,6 +150,8 @@ impl<W: OwnParts> WorldStorage for TableOver<W> {
 impl<L: SpansCalls> WorldStorage for Journal<L> {
     ghost use Rattle.std.proofs.Common.{ap};
     ghost use Rattle.iceoryx2_journal.specs.Journal.{Spans};
+    ghost use Rattle.iceoryx2_journal.specs.Owed.{OwesNothing};
+    ghost use Rattle.iceoryx2_journal.specs.Replay.{Lives};
     ghost use Rattle.iceoryx2_journal.specs.Taking.{is_own};
     ghost use Rattle.iceoryx2_journal.proofs.Runs.{access_under, access_nodes};
 
@@ -130,6 +162,10 @@ impl<L: SpansCalls> WorldStorage for Journal<L> {
     ghost accesses = { λ old letter new access. access_under access.0 };
 
     ghost keeps_own = { λ old letter new access. ap is_own (access_nodes access.0) };
+
+    ghost settles = { Lives L.contents };
+
+    ghost is_settled = { λ journal node spared. OwesNothing journal.world node spared };
 
     ghost in_call = { λ journal. L.in_call journal.log };
 
@@ -153,6 +189,10 @@ impl<L: SpansCalls> WorldStorage for Journal<L> {
         Journal::clean(self, node)
     }
 
+    fn settle(&mut self, node: u64, spared: &[u64]) -> Result<Cleaned, CleanError> {
+        Journal::settle(self, node, spared)
+    }
+
     fn list(&self) -> Result<Vec<Entry>, AllocError> {
         Journal::list(self)
     }
@@ -169,6 +209,10 @@ impl<S: WorldStorage> WorldStorage for Traced<S> {
     ghost accesses = { λ old letter new access. S.accesses old.inner letter new.inner access.inside };
 
     ghost keeps_own = { λ old letter new access. S.keeps_own old.inner letter new.inner access.inside };
+
+    ghost settles = { λ old new. (new ≡ record old { inner = new.inner }) × S.settles old.inner new.inner };
+
+    ghost is_settled = { λ traced. S.is_settled traced.inner };
 
     ghost in_call = { λ traced. S.in_call traced.inner };
 
@@ -190,6 +234,10 @@ impl<S: WorldStorage> WorldStorage for Traced<S> {
 
     fn clean(&mut self, node: u64) -> Result<Cleaned, CleanError> {
         self.inner_mut().clean(node)
+    }
+
+    fn settle(&mut self, node: u64, spared: &[u64]) -> Result<Cleaned, CleanError> {
+        self.inner_mut().settle(node, spared)
     }
 
     fn list(&self) -> Result<Vec<Entry>, AllocError> {
