@@ -3,6 +3,9 @@ use Rattle.std.specs.Prelude.{◌≡◌, List, [], Option, Result, Ok, Err}
 use Rattle.iceoryx2_access.specs.Letter.{Letter}
 use Rattle.iceoryx2_access.specs.Registered.{Registered}
 use Rattle.iceoryx2_access.specs.Run.{Run}
+use Rattle.iceoryx2_journal.specs.Journal.{JournalState}
+use Rattle.iceoryx2_journal.specs.Taking.{is_own}
+use Rattle.iceoryx2_world.specs.Interference.{Rely}
 use Rattle.iceoryx2_world.specs.World.{World}
 use Rattle.iceoryx2_rounds.specs.Answers.{map_err}
 use Rattle.iceoryx2_description.specs.declared.config.Config.{Config}
@@ -57,6 +60,10 @@ pub record SpansSession {S : Type 0} (spans : S → S → Type 0) (old new : Ses
 -- what is kept of the accesses stays where the storage inside changes so
 abbrev pub SpansTraced : {S : Type 0} → (spans : S → S → Type 0) → TracedState S → TracedState S → Type 0
 SpansTraced spans old new = (new ≡ record old { inner = new.inner }) × spans old.inner new.inner
+
+-- Others have done something, and the own nodes stay, with all that they rely on.
+abbrev pub ShowsOthers : {L : Type 0} → JournalState L → JournalState L → Type 0
+ShowsOthers old new = Rely (is_own old.nodes) old.world new.world × (is_own new.nodes ≡ is_own old.nodes)
 
 -- A command goes along a word of it between the begin and the end of a call.
 pub record AppliesHeld {S : Type 0} (spans : S → S → Type 0) (step : S → Letter → S → Type 0) (world : S → World)

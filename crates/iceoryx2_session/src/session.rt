@@ -19,7 +19,6 @@ use iceoryx2_description::config::Config;
 use iceoryx2_journal::cleaning::{CleanError, Cleaned};
 use iceoryx2_rounds::port_factory::Registration;
 use iceoryx2_table::table::Table;
-use iceoryx2_testing::traced::Traced;
 use iceoryx2_types::types::CustomHeaderMarker;
 use std::alloc::AllocError;
 
@@ -319,6 +318,9 @@ impl<S: WorldStorage> Session<S> {
         ensures kept { Rely (own_nodes S.own self.old)
             (world_state S.world self.old).table (world_state S.world self.new).table }
 
+        // What the storage keeps besides stays.
+        ensures shows { SpansSession S.shows (own_state self.old) (own_state self.new) }
+
         // So the factories of all slots stand as before where the world agreed,
         ensures stands { let own = own_nodes S.own self.old in
             Agrees (world_state S.world self.old).table → SlotsStandInWorld own (world_state S.world self.old)
@@ -351,6 +353,9 @@ impl<S: WorldStorage> Session<S> {
 
         // The node has nothing any more.
         ensures gone { OnOk result (IsHolding (world_state S.world self.new).table node None) }
+
+        // What the storage keeps besides stays.
+        ensures shows { SpansSession S.shows (own_state self.old) (own_state self.new) }
 
         // So the factories of all slots stand as before where the world agreed,
         ensures stands { let own = own_nodes S.own self.old in
@@ -643,36 +648,5 @@ impl Session<Table> {
         ensures { result.now ≡ (own_state self.now).table }
     {
         self.storage()
-    }
-}
-
-impl<S: WorldStorage> Session<Traced<S>> {
-    ghost use Rattle.iceoryx2_world.specs.Across.{Agrees};
-    ghost use Rattle.iceoryx2_world.specs.Interference.{Rely};
-    ghost use Rattle.iceoryx2_session.specs.SessionStates.{own_state};
-    ghost use Rattle.iceoryx2_session.specs.Sessions.{shown_session};
-    ghost use Rattle.iceoryx2_session.specs.StandingSlots.{SlotsStandInWorld};
-
-    /// Shows what others have done up to now, as `refresh` does. What is kept of the accesses stays as it was.
-    pub fn refresh_inside(&mut self)
-        // The slots hold what they held, and the trace is what it was.
-        ensures same { own_state self.new ≡ record (own_state self.old) {
-          table = record (own_state self.old).table { inner = (own_state self.new).table.inner };
-        } }
-
-        // Which nodes are own stays as it was,
-        ensures nodes { S.own (own_state self.new).table.inner ≡ S.own (own_state self.old).table.inner }
-
-        // and so does all that they rely on.
-        ensures kept { Rely (S.own (own_state self.old).table.inner)
-            (S.world (own_state self.old).table.inner) (S.world (own_state self.new).table.inner) }
-
-        // So the factories of all slots stand as before where the world agreed.
-        ensures stands { let own = S.own (own_state self.old).table.inner in
-            Agrees (S.world (own_state self.old).table.inner)
-            → SlotsStandInWorld own (shown_session (λ traced. S.world traced.inner) (own_state self.old))
-            → SlotsStandInWorld own (shown_session (λ traced. S.world traced.inner) (own_state self.new)) }
-    {
-        self.storage.inner_mut().refresh()
     }
 }

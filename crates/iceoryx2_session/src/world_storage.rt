@@ -27,10 +27,14 @@ pub trait WorldStorage: Storage {
     /// Which nodes are its own.
     ghost own: { Self → ℕ → Bool };
 
+    /// What showing others' doings and cleaning up change.
+    ghost shows: { Self → Self → Type 0 };
+
     /// Shows what others have done up to now, as far as that can be had. Makes no access.
     fn refresh(&mut self)
         ensures kept { Rely (own self.old) (world self.old) (world self.new) }
-        ensures same { own self.new ≡ own self.old };
+        ensures same { own self.new ≡ own self.old }
+        ensures shows { shows self.old self.new };
 
     /// Gives back what a node has that isn't an own one, by accesses in its name, until it has nothing. Whoever calls
     /// this knows that the node is dead. To all others it is a node that closes its factories.
@@ -40,7 +44,8 @@ pub trait WorldStorage: Storage {
     fn clean(&mut self, node: u64) -> Result<Cleaned, CleanError>
         ensures kept { Rely (own self.old) (world self.old) (world self.new) }
         ensures same { own self.new ≡ own self.old }
-        ensures gone { OnOk result (IsHolding (world self.new) node None) };
+        ensures gone { OnOk result (IsHolding (world self.new) node None) }
+        ensures shows { shows self.old self.new };
 
     /// What giving back of an own node changes.
     ghost settles: { Self → Self → Type 0 };
@@ -86,6 +91,16 @@ pub trait WorldStorage: Storage {
     ghost keeps_own: { (old : Self) (letter : Letter) (new : Self)
         → Self.step old letter new → own new ≡ own old };
 
+    /// That others' doings and cleaning up leave what its own nodes rely on, and which nodes these are.
+    ghost keeps_reliance: { (old : Self) (new : Self)
+        → shows old new → Rely (own old) (world old) (world new) × (own new ≡ own old) };
+
+    /// That nothing need be shown,
+    ghost shows_same: { (storage : Self) → shows storage storage };
+
+    /// and that more may be shown afterwards.
+    ghost shows_both: { (old : Self) (mid : Self) (new : Self) → shows old mid → shows mid new → shows old new };
+
     /// That the begin and the end of a call change neither the world nor which nodes are its own.
     ghost keeps_world: { (old : Self) (new : Self)
         → spans old new → (world new ≡ world old) × (own new ≡ own old) };
@@ -94,7 +109,8 @@ pub trait WorldStorage: Storage {
 // Each node acts through the table itself, so it shows its world as it is, and each node is its own.
 impl<W: OwnParts> WorldStorage for TableOver<W> {
     ghost use Rattle.std.specs.Prelude.{refl};
-    ghost use Rattle.std.proofs.Common.{ap};
+    ghost use Rattle.std.proofs.Common.{◌∙◌, ap, subst, sym};
+    ghost use Rattle.iceoryx2_world.proofs.agreement.Interference.{rely_same};
     ghost use Rattle.iceoryx2_world.specs.Interference.{everyone};
     ghost use Rattle.iceoryx2_world.proofs.Waiting.{table_access};
     ghost use Rattle.iceoryx2_world.proofs.agreement.Accesses.{unrefused};
@@ -114,6 +130,18 @@ impl<W: OwnParts> WorldStorage for TableOver<W> {
     ghost is_settled = { λ table node spared. Unit {0} };
 
     ghost in_call = { λ table. false };
+
+    ghost shows = { λ old new. new ≡ old };
+
+    ghost keeps_reliance = { λ old new same. (
+      subst (λ table. Rely everyone old.world table.world) (sym same)
+          (rely_same everyone old.world),
+      refl,
+    ) };
+
+    ghost shows_same = { λ table. refl };
+
+    ghost shows_both = { λ old mid new x y. y ∙ x };
 
     ghost spans = { λ old new. new ≡ old };
 
@@ -148,12 +176,14 @@ impl<W: OwnParts> WorldStorage for TableOver<W> {
 
 // A journal shows the world that it makes of its log. Its nodes are those that it was given.
 impl<L: SpansCalls> WorldStorage for Journal<L> {
-    ghost use Rattle.std.proofs.Common.{ap};
+    ghost use Rattle.std.proofs.Common.{◌∙◌, ap, refl, subst};
+    ghost use Rattle.iceoryx2_world.proofs.agreement.Interference.{rely_both, rely_same};
     ghost use Rattle.iceoryx2_journal.specs.Journal.{Spans};
     ghost use Rattle.iceoryx2_journal.specs.Owed.{OwesNothing};
     ghost use Rattle.iceoryx2_journal.specs.Replay.{Lives};
     ghost use Rattle.iceoryx2_journal.specs.Taking.{is_own};
     ghost use Rattle.iceoryx2_journal.proofs.Runs.{access_under, access_nodes};
+    ghost use Rattle.iceoryx2_session.specs.CommandWords.{ShowsOthers};
 
     ghost world = { λ journal. journal.world };
 
@@ -169,6 +199,18 @@ impl<L: SpansCalls> WorldStorage for Journal<L> {
 
     ghost in_call = { λ journal. L.in_call journal.log };
 
+    ghost shows = { ShowsOthers };
+
+    ghost keeps_reliance = { λ old new shown. shown };
+
+    ghost shows_same = { λ journal. (rely_same (is_own journal.nodes) journal.world, refl) };
+
+    ghost shows_both = { λ old mid new x y. (
+      rely_both (is_own old.nodes) old.world mid.world new.world x.0
+          (subst (λ own. Rely own mid.world new.world) x.1 y.0),
+      y.1 ∙ x.1,
+    ) };
+
     ghost spans = { Spans L.contents };
 
     ghost keeps_world = { λ old new s. (ap (λ j. j.world) s.same, ap (λ j. is_own j.nodes) s.same) };
@@ -182,7 +224,7 @@ impl<L: SpansCalls> WorldStorage for Journal<L> {
     }
 
     fn refresh(&mut self) {
-        Journal::refresh(self)
+        let _ = Journal::look(self);
     }
 
     fn clean(&mut self, node: u64) -> Result<Cleaned, CleanError> {
@@ -200,6 +242,8 @@ impl<L: SpansCalls> WorldStorage for Journal<L> {
 
 // What is traced shows the world of the storage inside, with the nodes that are own there.
 impl<S: WorldStorage> WorldStorage for Traced<S> {
+    ghost use Rattle.std.proofs.Common.{◌∙◌, ap, refl};
+    ghost use Rattle.iceoryx2_testing.specs.Trace.{TracedState};
     ghost use Rattle.iceoryx2_session.specs.CommandWords.{SpansTraced};
 
     ghost world = { λ traced. S.world traced.inner };
@@ -215,6 +259,17 @@ impl<S: WorldStorage> WorldStorage for Traced<S> {
     ghost is_settled = { λ traced. S.is_settled traced.inner };
 
     ghost in_call = { λ traced. S.in_call traced.inner };
+
+    ghost shows = { SpansTraced S.shows };
+
+    ghost keeps_reliance = { λ old new shown. S.keeps_reliance old.inner new.inner shown.1 };
+
+    ghost shows_same = { λ traced. (refl, S.shows_same traced.inner) };
+
+    ghost shows_both = { λ old mid new x y. (
+      y.0 ∙ ap (λ (t : TracedState S). record t { inner = new.inner }) x.0,
+      S.shows_both old.inner mid.inner new.inner x.1 y.1,
+    ) };
 
     ghost spans = { SpansTraced S.spans };
 
