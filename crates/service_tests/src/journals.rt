@@ -7,4 +7,5 @@ mod placed_log;
 mod places;
 mod recording;
 mod schedules;
+mod settling;
 mod support;
