@@ -7,7 +7,7 @@ use explain_serve::serve::serve as explain;
 use iceoryx2_description::config::Config;
 use iceoryx2_session::session::Session;
 use iceoryx2_table::table::Table;
-use negotiate_serve::answer::answer_next;
+use negotiate_serve::answer::{Buffers, answer_next};
 use negotiate_serve::ending::{Ending, ServeError, WrongLines, status};
 use negotiate_serve::report::report;
 use negotiate_serve::serve::serve as negotiate;
@@ -25,18 +25,9 @@ fn answer_all(
     page: &mut Vec<u8>,
     session: &mut Session<Table>,
 ) -> Result<Ending, ServeError> {
-    let mut line = Vec::new(alloc);
-    let mut text = String::new(alloc);
+    let mut buffers = Buffers::new(alloc);
     for number in 1..MOST_LINES {
-        let ended = answer_next(
-            number,
-            wrong_lines,
-            reader,
-            page,
-            session,
-            &mut line,
-            &mut text,
-        )?;
+        let ended = answer_next(number, wrong_lines, reader, page, session, &mut buffers)?;
         if let Some(ending) = ended {
             return Ok(ending);
         }
@@ -44,7 +35,7 @@ fn answer_all(
     Err(ServeError::TooManyLines)
 }
 
-/// Does so over a table of its own, as sessions of `wulameron` do.
+/// Answers each line of these bytes over a table of its own, as sessions of `wulameron` do.
 fn reply(
     alloc: Global,
     wrong_lines: WrongLines,

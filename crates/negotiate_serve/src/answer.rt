@@ -17,6 +17,23 @@ use std::alloc::{AllocError, Global};
 use std::io::{BufRead, Write};
 use std::mem;
 
+/// The bytes of a line, and the text of its answer, whose room is used again for the next one.
+#[derive(Drop)]
+pub struct Buffers {
+    line: Vec<u8>,
+    text: String,
+}
+
+impl Buffers {
+    /// With nothing in them.
+    pub fn new(alloc: Global) -> Buffers {
+        Buffers {
+            line: Vec::new(alloc),
+            text: String::new(alloc),
+        }
+    }
+}
+
 /// Answers line after line, until the input ends, a line is no command, or 2^64 - 2 lines were answered, which is
 /// a failure. A failure isn't written here.
 pub fn answer_lines<A: Answerer, R: BufRead, W: Write>(
@@ -30,8 +47,7 @@ pub fn answer_lines<A: Answerer, R: BufRead, W: Write>(
         answerer.old result input (R.remaining reader.new) (W.contents output.old) (W.contents output.new) }
     ensures stands { A.stands answerer.new }
 {
-    let mut line = Vec::new(alloc);
-    let mut text = String::new(alloc);
+    let mut buffers = Buffers::new(alloc);
     for number in 1..u64::MAX {
         let ending = answer_next(
             number,
@@ -39,8 +55,7 @@ pub fn answer_lines<A: Answerer, R: BufRead, W: Write>(
             reader,
             output,
             answerer,
-            &mut line,
-            &mut text,
+            &mut buffers,
         )?;
         if let Some(ending) = ending {
             return Ok(ending);
@@ -58,8 +73,7 @@ pub fn answer_next<A: Answerer, R: BufRead, W: Write>(
     reader: &mut R,
     output: &mut W,
     answerer: &mut A,
-    line: &mut Vec<u8>,
-    text: &mut String,
+    buffers: &mut Buffers,
 ) -> Result<Option<Ending>, ServeError>
     ensures turn { A.stands answerer.old → (rest : List ℕ) → R.remaining reader.old ≡ Some rest
         → TakesTurn (LinesBy wrong_lines A.answers) result answerer.old number rest
@@ -67,16 +81,23 @@ pub fn answer_next<A: Answerer, R: BufRead, W: Write>(
     ensures ends { IfOk result (λ ended. IfSome ended (MayEnd wrong_lines)) }
     ensures stands { A.stands answerer.old → A.stands answerer.new }
 {
-    if !next_line(reader, line)? {
+    if !next_line(reader, &mut buffers.line)? {
         return Ok(Some(Ending::InputEnded));
     }
-    text.clear();
-    let goes_on = answer_line(number, wrong_lines, line, answerer, text)?;
-    write_out(text.as_bytes(), output)?;
+    buffers.text.clear();
+    let goes_on = answer_line(
+        number,
+        wrong_lines,
+        &buffers.line,
+        answerer,
+        &mut buffers.text,
+    )?;
+    write_out(buffers.text.as_bytes(), output)?;
     if goes_on {
         return Ok(None);
     }
-    let line = mem::replace(line, Vec::new(*text.allocator()));
+    let alloc = *buffers.text.allocator();
+    let line = mem::replace(&mut buffers.line, Vec::new(alloc));
     Ok(Some(Ending::NotACommand { number, line }))
 }
 

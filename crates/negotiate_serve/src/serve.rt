@@ -32,7 +32,7 @@ pub fn serve<R: Read + Drop, W: Write>(
     ended
 }
 
-/// Does so, and gives the table back, in which nothing is left.
+/// Answers each line of an input over a table of its own, and gives the table back, in which nothing is left.
 fn serve_session<R: Read + Drop, W: Write>(
     alloc: Global,
     input: R,
