@@ -1,5 +1,5 @@
 -- The accesses of a command, as a trace keeps them.
-use Rattle.std.proofs.Common.{◌≡◌, ℕ, ◌+◌, ◌-◌, ◌^◌, ◌≤◌, min, List, [], ◌∷◌, ◌++◌, Option, Result, length, map, drop, length-append, length-drop, refl, sym, ap, ◌∙◌, arith}
+use Rattle.std.proofs.Common.{◌≡◌, ℕ, ◌+◌, ◌-◌, ◌^◌, ◌≤◌, min, List, [], ◌∷◌, ◌++◌, Option, Result, length, map, drop, length-append, length-drop, refl, sym, ap, subst, ◌∙◌, arith}
 use Rattle.std.proofs.lemmas.List.{drop-drop, drop-append-le, length-map}
 use Rattle.iceoryx2_access.specs.Letter.{Letter}
 use Rattle.iceoryx2_access.specs.Registered.{Registered}
@@ -9,14 +9,15 @@ use Rattle.iceoryx2_call_laws.specs.AnyCalls.{IsShortBy}
 use Rattle.iceoryx2_call_laws.proofs.calls.AnyCalls.{each_is_short}
 use Rattle.iceoryx2_call_laws.proofs.calls.Words.{close_is_short}
 use Rattle.iceoryx2_testing.specs.Entries.{entry_of}
-use Rattle.iceoryx2_testing.specs.Trace.{IsTracedAccess, latest}
+use Rattle.iceoryx2_testing.specs.Trace.{IsTracedAccess, TracedState, latest}
 use Rattle.iceoryx2_testing.proofs.TraceRuns.{latest_entries, bound, same_room, total}
 use Rattle.iceoryx2_commands.specs.declared.command.Command.{Command}
 use Rattle.iceoryx2_commands.specs.declared.command.Command.TheVariants as command
 use Rattle.iceoryx2_commands.specs.declared.command.Refusal.{Refusal}
 use Rattle.iceoryx2_commands.specs.declared.command.Reply.{Reply}
 use Rattle.iceoryx2_commands.specs.declared.command.Reply.TheVariants as reply
-use Rattle.iceoryx2_session.specs.CommandWords.{IsBuilderWord, IsCommandWord, AppliesAlong}
+use Rattle.iceoryx2_session.proofs.Shown.{goes_along}
+use Rattle.iceoryx2_session.specs.CommandWords.{IsBuilderWord, IsCommandWord, AppliesAlong, SpansTraced}
 use Rattle.iceoryx2_session.specs.PatternCalls.{PatternCall}
 use Rattle.iceoryx2_session.specs.Patterns.{builder_call}
 use Rattle.iceoryx2_session.specs.Sessions.{AppliesBy}
@@ -84,3 +85,19 @@ module _ {S : Type 0} (step : S → Letter → S → Type 0) (world : S → Worl
     room = same_room along.run ∙ room.room;
     kept = let within = bound along.run (omega (arith, room.room, room.kept)) in omega (arith, same_room along.run, room.room, within);
   }
+
+-- ---- between two commands
+
+module _ {S : Type 0} (changes : S → S → Type 0) (old new : TracedState S) (s : SpansTraced changes old new) where
+  -- what the storage inside does leaves the trace with its room
+  pub room_kept_by : HasItsRoom old → HasItsRoom new
+  room_kept_by room = subst (λ (t : TracedState S). HasItsRoom t) (sym s.0) (record { room = room.room; kept = room.kept })
+
+  -- and is no access
+  pub total_kept_by : new.total ≡ old.total
+  total_kept_by = ap (λ (t : TracedState S). t.total) s.0
+
+-- A command leaves it with its room.
+pub room_after : {S : Type 0} (step : S → Letter → S → Type 0) (world : S → World) (first last : TracedOver S) (c : Command) (answer : Reply)
+    → AppliesBy (IsTracedAccess step) (λ traced. world traced.inner) first c answer last → HasItsRoom first.table → HasItsRoom last.table
+room_after step world first last c answer applies room = still_room step world first last c answer room (goes_along applies)

@@ -31,7 +31,7 @@ pub fn serve<R: Read + Drop, W: Write>(
     serve_lines(alloc, input, output, format)
 }
 
-/// Does so behind the head.
+/// Answers each line of an input over a table of its own, and explains each reply in this format.
 fn serve_lines<R: Read + Drop, W: Write>(
     alloc: Global,
     input: R,
