@@ -1,2 +1,0 @@
-pub mod Rehearsing
-pub mod Rehearsals

@@ -1,5 +1,0 @@
-use Rattle.wulameron_clean.proofs.Rehearsing.{stepped}
-use Rattle.wulameron_clean.proofs.rehearsal.rehearse_next.Goals as goal
-
-pub returns : goal.returns
-returns c = stepped c.args.node c.step_of.ensures c.holding.ensures c.in-Some.is c.give_back.ensures

@@ -1,5 +1,0 @@
-use Rattle.wulameron_clean.proofs.Rehearsing.{own_part}
-use Rattle.wulameron_clean.proofs.rehearsal.release.Goals as goal
-
-pub returns : goal.returns
-returns c = own_part c.release.ensures

@@ -1,4 +1,0 @@
-pub mod Clean
-pub mod Dead
-pub mod Rehearsal
-pub mod Texts

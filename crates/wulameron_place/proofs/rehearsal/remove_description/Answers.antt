@@ -1,0 +1,5 @@
+use Rattle.wulameron_place.proofs.Rehearsing.{own_part}
+use Rattle.wulameron_place.proofs.rehearsal.remove_description.Goals as goal
+
+pub returns : goal.returns
+returns c = own_part c.remove_description.ensures

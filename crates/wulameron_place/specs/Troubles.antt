@@ -1,0 +1,100 @@
+-- What goes wrong at a log, and what is written of it.
+use Rattle.std.specs.Prelude.{◌≡◌, ℕ, Bool, true, false, List, ◌++◌, Option, Some, None, Result, Err}
+use Rattle.std.specs.Prelude.{option_map, codes}
+use Rattle.std.specs.declared.io.ErrorKind.{ErrorKind}
+use Rattle.std.specs.declared.io.ErrorKind.TheVariants as system
+use Rattle.iceoryx2_file_log.specs.declared.error.FileFault.{FileFault}
+use Rattle.iceoryx2_file_log.specs.declared.error.FileFault.TheVariants as file
+use Rattle.iceoryx2_file_log.specs.declared.cursor.State.{State}
+use Rattle.iceoryx2_file_log.specs.declared.cursor.State.TheVariants as state
+use Rattle.iceoryx2_file_log.specs.Errors.{fault_text}
+use Rattle.negotiate_lines.specs.Escapes.{escaped}
+use Rattle.negotiate_serve.specs.declared.ending.ServeError.{ServeError}
+use Rattle.negotiate_serve.specs.declared.ending.ServeError.TheVariants as failure
+use Rattle.negotiate_serve.specs.Outputs.{Writes}
+use Rattle.wulameron_place.specs.declared.trouble.Trouble.{Trouble}
+use Rattle.wulameron_place.specs.declared.trouble.Trouble.TheVariants as trouble
+
+-- what goes wrong at a journal: an entry ended it, or else what its log refused last
+abbrev pub trouble_of : (is_over : Bool) → Option FileFault → Option Trouble
+trouble_of true refused = Some trouble.Over
+trouble_of false refused = option_map trouble.Refused refused
+
+-- what a user has to know of why a log refused: not that it goes on elsewhere, or isn't worth a compaction
+abbrev pub concern_of : Option FileFault → Option FileFault
+concern_of (Some file.Moved) = None
+concern_of (Some file.NothingSaved) = None
+concern_of other = other
+
+-- the same, but for damage that was found while the log wasn't held: a handle that found it while it was is damaged
+abbrev pub concern_held_of : State → Option FileFault → Option FileFault
+concern_held_of (state.Damaged x) (Some (file.Damaged at)) = Some (file.Damaged at)
+concern_held_of s (Some (file.Damaged at)) = None
+concern_held_of s other = concern_of other
+
+-- a log that is over, is damaged, has lost its path, or may have an entry that nobody knows of isn't used any more
+abbrev pub is_last : Trouble → Bool
+is_last trouble.Over = true
+is_last (trouble.Refused (file.Damaged at)) = true
+is_last (trouble.Refused file.Unsure) = true
+is_last (trouble.Refused file.Removed) = true
+is_last (trouble.Refused other) = false
+
+-- the trouble, where it is the last one
+abbrev pub only_last : Trouble → Bool → Option Trouble
+only_last t true = Some t
+only_last t false = None
+
+abbrev pub last_of : Option Trouble → Option Trouble
+last_of None = None
+last_of (Some t) = only_last t (is_last t)
+
+-- what can be done where the system refused by this kind
+abbrev pub kind_advice_of : ErrorKind → List ℕ
+kind_advice_of system.NotFound = codes "make its folder, or name another file"
+kind_advice_of system.NotADirectory = codes "name another file"
+kind_advice_of system.InvalidFilename = codes "name another file"
+kind_advice_of kind = codes "see whether its disk works"
+
+-- what can be done where a file refused
+abbrev pub advice_of : FileFault → List ℕ
+advice_of file.IsALink = codes "name the file itself"
+advice_of file.IsAFolder = codes "name a file in it"
+advice_of file.NotAFile = codes "name a file"
+advice_of file.NotALog = codes "name another file"
+advice_of (file.AnotherVersion found) = codes "use a program of that version"
+advice_of (file.Damaged at) = codes "begin another log"
+advice_of file.NoPermission = codes "let this user read and write it"
+advice_of file.Busy = codes "try again, or with a longer --wait"
+advice_of file.DiskFull = codes "make room, and try again"
+advice_of file.OutOfMemory = codes "free memory, and try again"
+advice_of file.TooLong = codes "give the service fewer attributes"
+advice_of file.HeldAlready = codes "start the program again"
+advice_of file.NotHeld = codes "start the program again"
+advice_of file.ReadOnly = codes "start the program again"
+advice_of file.Unread = codes "start the program again"
+advice_of file.Unsure = codes "start the program again"
+advice_of file.Moved = codes "try again"
+advice_of file.Removed = codes "start the program again"
+advice_of file.AnotherLog = codes "start the program again"
+advice_of file.NothingSaved = codes "leave it"
+advice_of (file.Failed kind) = kind_advice_of kind
+
+abbrev pub trouble_text : Trouble → Option (List ℕ)
+trouble_text trouble.Over = Some (codes "has an entry that this program can't follow; start it with a node of its own")
+trouble_text (trouble.Refused f) = Some (fault_text f ++ codes "; " ++ advice_of f)
+
+-- what is written of why a log isn't opened, behind its path
+abbrev pub unopened_text : FileFault → Option (List ℕ)
+unopened_text (file.Failed system.NotFound) =
+    Some (codes "there is no log; name another file, or make it by `wulameron run`")
+unopened_text fault = trouble_text (trouble.Refused fault)
+
+-- the line of a trouble with the log of this path
+abbrev pub trouble_line : (path text : List ℕ) → List ℕ
+trouble_line path text = codes "wulameron: " ++ escaped path ++ codes ": " ++ text ++ codes "\n"
+
+-- The line is written, as far as the writer takes it, or there was no memory for it.
+abbrev pub WritesLine : (line : List ℕ) → Result (Unit {0}) ServeError → (old new : Option (List ℕ)) → Type 0
+WritesLine line (Err failure.OutOfMemory) old new = new ≡ old
+WritesLine line result old new = Writes line result old new

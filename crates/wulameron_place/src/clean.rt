@@ -1,0 +1,305 @@
+//! The command that gives back what dead nodes have, or writes what that would be.
+
+ghost use Rattle.std.specs.Prelude.{◌≡◌, IfSome};
+ghost use Rattle.iceoryx2_journal.specs.Taking.{is_own};
+ghost use Rattle.iceoryx2_world.specs.Interference.{Rely};
+ghost use Rattle.wulameron_place.specs.Clean.{ComesToWorld};
+
+use crate::dead::{DeadNodes, NodeFiles, NotDead, Unclaimed, dead_of, not_dead};
+use crate::opening::{open, open_view};
+use crate::reading::take_over;
+use crate::reports::Reports;
+use crate::texts::{RehearsalError, describe_cleaned, gave_nothing, rehearse_nodes};
+use crate::trouble::Refusing;
+use iceoryx2_journal::cleaning::{CleanError, Cleaned};
+use iceoryx2_journal::journal::Journal;
+use iceoryx2_log::call_log::{CallLog, SpansCalls};
+use iceoryx2_monitoring::error::MonitoringError;
+use iceoryx2_monitoring::state::{list, state};
+use iceoryx2_table::table::stored::StoredWorld;
+use negotiate_serve::ending::{DONE, FAULT, ServeError};
+use negotiate_serve::output::write_out;
+use std::alloc::Global;
+use std::fs::File;
+use std::io::Write;
+use std::random::RandomSource;
+use std::rt::Files;
+use std::time::Clock;
+use wulameron_arguments::asked::Clean;
+
+/// The status where a node that was named isn't dead.
+pub const NOT_DEAD: u8 = 1;
+
+/// What a world has where a step of a rehearsal is refused.
+pub const STAYS: &str =
+    "has something of a dead node that can't be given back; see `wulameron check`";
+
+/// Why there are no nodes to clean up for.
+#[derive(Debug, Drop)]
+pub enum Unfound {
+    /// The node that was named isn't dead.
+    NotDead(NotDead),
+    /// A node's file or the log's folder refused.
+    Failed(MonitoringError),
+    OutOfMemory,
+}
+
+/// Gives back what dead nodes have over the log in a file, of all or of the one that is named, with a line on the output
+/// for each of which there was something. As a dry run it only writes what that would be, and appends nothing.
+///
+/// Gives the status with which the program ends: 0; 1 where the node that is named isn't dead; or 3 after a failure.
+/// The writer of errors has a line of these.
+pub fn clean<F: Files<File = File> + Clock + RandomSource + AllocGlobal, W: Write, E: Write>(
+    rt: &F,
+    asked: &Clean<'_>,
+    output: &mut W,
+    errors: &mut E,
+) -> u8 {
+    let mut reports = Reports::new(rt.alloc(), asked.place.at, errors);
+    match wanted_nodes(rt, asked.place.at, asked.node) {
+        Ok(nodes) => {
+            if asked.is_dry_run {
+                return rehearse_found(rt, asked, &nodes, output, &mut reports);
+            }
+            clean_found(rt, asked, &nodes, output, &mut reports)
+        }
+        Err(why) => end_unfound(&why, &mut reports),
+    }
+}
+
+// ---- which nodes
+
+/// The dead nodes beside the log of this path, or the one that is named where it is dead.
+pub fn wanted_nodes<F: Files<File = File> + AllocGlobal>(
+    rt: &F,
+    path: &str,
+    named: Option<u64>,
+) -> Result<Vec<u64>, Unfound> {
+    match named {
+        Some(node) => named_node(rt, path, node),
+        None => match list(rt, path) {
+            Ok(found) => Ok(dead_of(rt.alloc(), &found)),
+            Err(error) => Err(Unfound::Failed(error)),
+        },
+    }
+}
+
+/// This node, where it is dead.
+fn named_node<F: Files<File = File> + AllocGlobal>(
+    rt: &F,
+    path: &str,
+    node: u64,
+) -> Result<Vec<u64>, Unfound> {
+    match state(rt, path, node) {
+        Ok(state) => match not_dead(node, state) {
+            None => match vec![in rt.alloc(); node] {
+                Ok(nodes) => Ok(nodes),
+                Err(_) => Err(Unfound::OutOfMemory),
+            },
+            Some(why) => Err(Unfound::NotDead(why)),
+        },
+        Err(error) => Err(Unfound::Failed(error)),
+    }
+}
+
+/// Tells why there are no nodes to clean up for, and gives the status.
+fn end_unfound<E: Write>(why: &Unfound, reports: &mut Reports<'_, E>) -> u8 {
+    match why {
+        Unfound::NotDead(why) => {
+            let _ = reports.tell(*why);
+            NOT_DEAD
+        }
+        Unfound::Failed(error) => {
+            let _ = reports.tell_claim(error);
+            FAULT
+        }
+        Unfound::OutOfMemory => reports.fail(ServeError::OutOfMemory),
+    }
+}
+
+// ---- what they have is given back
+
+/// Gives back what these nodes have.
+fn clean_found<F: Files<File = File> + Clock + RandomSource + AllocGlobal, W: Write, E: Write>(
+    rt: &F,
+    asked: &Clean<'_>,
+    nodes: &[u64],
+    output: &mut W,
+    reports: &mut Reports<'_, E>,
+) -> u8 {
+    let place = asked.place;
+    let Some(log) = open(rt, place, reports) else {
+        return FAULT;
+    };
+    let counter = log.header().counter;
+    let dead = NodeFiles::beside(rt, place);
+    let alloc = rt.alloc();
+    let mut journal = Journal::starting_at(alloc, CallLog::new(log), Vec::new(alloc), counter);
+    let done = clean_nodes(alloc, &mut journal, &dead, nodes, output);
+    if let Some(_) = reports.look(&journal) {
+        return FAULT;
+    }
+    match done {
+        Ok(spared) => end_clean(spared, asked.node, reports),
+        Err(fault) => reports.fail(fault),
+    }
+}
+
+/// Which of some nodes weren't cleaned up for.
+#[derive(Clone, Copy, Debug, PartialEq, Eq)]
+pub struct Spared {
+    /// One at least is alive.
+    pub some_alive: bool,
+    /// The log or a node's file refused for one at least.
+    pub some_refused: bool,
+}
+
+/// The status where these were spared. That a node which is named is alive is told.
+fn end_clean<E: Write>(spared: Spared, named: Option<u64>, reports: &mut Reports<'_, E>) -> u8 {
+    if spared.some_refused {
+        return FAULT;
+    }
+    match named {
+        Some(node) => {
+            if spared.some_alive {
+                let _ = reports.tell(NotDead::IsAlive { node });
+                return NOT_DEAD;
+            }
+            DONE
+        }
+        None => DONE,
+    }
+}
+
+/// Gives back what these nodes have, as far as they are dead, with a line for each of which there was something. Where
+/// the log or a node's file refuses for one of them it goes on with the others.
+///
+/// `ServeError` where a line can't be written, or there is no memory for it.
+pub fn clean_nodes<L: Refusing + SpansCalls, D: DeadNodes, W: Write>(
+    alloc: Global,
+    journal: &mut Journal<L>,
+    dead: &D,
+    nodes: &[u64],
+    output: &mut W,
+) -> Result<Spared, ServeError>
+    ensures kept { Rely (is_own journal.old.nodes) journal.old.world journal.new.world }
+    ensures nodes { journal.new.nodes ≡ journal.old.nodes }
+{
+    let mut some_alive = false;
+    let mut some_refused = false;
+    for node in nodes {
+        match clean_node(journal, dead, *node) {
+            Found::Alive => some_alive = true,
+            Found::Cleaned(cleaned) => write_cleaned(alloc, *node, cleaned, output)?,
+            Found::Refused => some_refused = true,
+        }
+    }
+    Ok(Spared {
+        some_alive,
+        some_refused,
+    })
+}
+
+/// What became of a node.
+#[derive(Clone, Copy, Debug, PartialEq, Eq)]
+pub enum Found {
+    /// It isn't dead any more.
+    Alive,
+    /// It was dead, and this was given back.
+    Cleaned(Cleaned),
+    /// Its file or the log refused.
+    Refused,
+}
+
+/// Gives back what a node has, where it is dead still.
+fn clean_node<L: Refusing + SpansCalls, D: DeadNodes>(
+    journal: &mut Journal<L>,
+    dead: &D,
+    node: u64,
+) -> Found
+    ensures kept { Rely (is_own journal.old.nodes) journal.old.world journal.new.world }
+    ensures nodes { journal.new.nodes ≡ journal.old.nodes }
+{
+    match dead.claim(node) {
+        Err(Unclaimed::IsAlive) => Found::Alive,
+        Err(Unclaimed::Refused) => Found::Refused,
+        Ok(claim) => {
+            journal.begin_call();
+            let cleaned = journal.clean(node);
+            journal.end_call();
+            drop(claim);
+            found_by(cleaned)
+        }
+    }
+}
+
+/// What became of a dead node.
+pub fn found_by(cleaned: Result<Cleaned, CleanError>) -> Found {
+    match cleaned {
+        Ok(cleaned) => Found::Cleaned(cleaned),
+        Err(_) => Found::Refused,
+    }
+}
+
+/// Writes what was given back for a node, where there was something.
+fn write_cleaned<W: Write>(
+    alloc: Global,
+    node: u64,
+    cleaned: Cleaned,
+    output: &mut W,
+) -> Result<(), ServeError> {
+    if gave_nothing(cleaned) {
+        return Ok(());
+    }
+    let mut text = String::new(alloc);
+    match describe_cleaned(node, cleaned, &mut text) {
+        Ok(()) => write_out(text.as_bytes(), output),
+        Err(_) => Err(ServeError::OutOfMemory),
+    }
+}
+
+// ---- what they have would be given back
+
+/// Writes what would be given back of what these nodes have. The log has to be there.
+fn rehearse_found<F: Files<File = File> + Clock + RandomSource + AllocGlobal, W: Write, E: Write>(
+    rt: &F,
+    asked: &Clean<'_>,
+    nodes: &[u64],
+    output: &mut W,
+    reports: &mut Reports<'_, E>,
+) -> u8 {
+    let Some(journal) = open_view(rt, asked.place, reports) else {
+        return FAULT;
+    };
+    let Some(mut world) = caught_up(journal, reports) else {
+        return FAULT;
+    };
+    match rehearse_nodes(rt.alloc(), &mut world, nodes) {
+        Ok(text) => match write_out(text.as_bytes(), output) {
+            Ok(()) => DONE,
+            Err(fault) => reports.fail(fault),
+        },
+        Err(RehearsalError::OutOfMemory) => reports.fail(ServeError::OutOfMemory),
+        Err(RehearsalError::Refused { node: _ }) => {
+            let _ = reports.tell(STAYS);
+            FAULT
+        }
+    }
+}
+
+/// The world that a journal's log comes to: all of it is taken over, and nothing appended. `None` where not all can be
+/// taken over, which is told.
+pub fn caught_up<L: Refusing + Drop, E: Write>(
+    journal: Journal<L>,
+    reports: &mut Reports<'_, E>,
+) -> Option<StoredWorld>
+    ensures { IfSome result (ComesToWorld L.contents journal) }
+{
+    let mut journal = journal;
+    let is_all = take_over(&mut journal);
+    let _ = reports.look(&journal);
+    if !is_all {
+        return None;
+    }
+    Some(journal.into_world())
+}

@@ -1,0 +1,169 @@
+//! What a program tells of the log of a path: a line each, on its writer of errors.
+
+ghost use Rattle.std.specs.Prelude.{◌≡◌, List, ℕ, Option, Some, IfOk, codes, string_bytes};
+ghost use Rattle.iceoryx2_monitoring.specs.Errors.{fault_text as claim_text};
+ghost use Rattle.negotiate_serve.specs.Outputs.{Writes};
+ghost use Rattle.negotiate_serve.specs.Reports.{failure_line};
+ghost use Rattle.wulameron_place.specs.Troubles.{WritesLine, last_of, trouble_line, unopened_text};
+
+use crate::halt::Halt;
+use crate::trouble::{Trouble, Troubled, last_trouble};
+use iceoryx2_file_log::error::FileFault;
+use iceoryx2_monitoring::error::MonitoringError;
+use negotiate_lines::escape::escaped_text;
+use negotiate_serve::ending::{Ending, FAULT, ServeError};
+use negotiate_serve::output::write_out;
+use negotiate_serve::report::{report, report_failure};
+use std::alloc::{AllocError, Global};
+use std::fmt;
+use std::io::{ErrorKind, Write};
+
+const NO_LOG: &str = "there is no log; name another file, or make it by `wulameron run`";
+
+/// What is told where something of a node stays.
+pub const STAYS: &str = "what was held stays; it is given back by `wulameron clean`";
+
+/// A writer of errors for the log of a path.
+#[derive(Drop)]
+pub struct Reports<'a, E> {
+    alloc: Global,
+    path: &'a str,
+    errors: E,
+    /// What was told last by `look`.
+    told: Option<Trouble>,
+}
+
+impl<'a, E: Write> Reports<'a, E> {
+    /// Nothing was told.
+    pub fn new(alloc: Global, path: &'a str, errors: E) -> Reports<'a, E>
+        ensures { (result.path.now ≡ path.now) × (result.errors ≡ errors) }
+    {
+        Reports {
+            alloc,
+            path,
+            errors,
+            told: None,
+        }
+    }
+
+    /// What texts are made by.
+    pub fn alloc(&self) -> Global {
+        self.alloc
+    }
+
+    /// Writes the line of what is wrong with the log, or is wanted of it.
+    ///
+    /// `ServeError` as `write_out` does, and where there is no memory for the line.
+    pub fn tell<D: fmt::Display + Copy>(&mut self, wrong: D) -> Result<(), ServeError>
+        ensures { (text : List ℕ) → D.output wrong ≡ Some text
+            → WritesLine (trouble_line self.old.path.now text) result
+            (E.contents self.old.errors) (E.contents self.new.errors) }
+    {
+        match line_of(self.alloc, self.path, wrong) {
+            Ok(line) => write_out(line.as_bytes(), &mut self.errors),
+            Err(_) => Err(ServeError::OutOfMemory),
+        }
+    }
+
+    /// Writes the line of why the log isn't opened.
+    ///
+    /// `ServeError` as `tell` does.
+    pub fn tell_unopened(&mut self, fault: FileFault) -> Result<(), ServeError>
+        ensures { (text : List ℕ) → unopened_text fault ≡ Some text
+            → WritesLine (trouble_line self.old.path.now text) result
+            (E.contents self.old.errors) (E.contents self.new.errors) }
+    {
+        match fault {
+            FileFault::Failed {
+                kind: ErrorKind::NotFound,
+            } => self.tell(NO_LOG),
+            _ => self.tell(Trouble::Refused(fault)),
+        }
+    }
+
+    /// Writes the line of a node that isn't claimed.
+    ///
+    /// `ServeError` as `tell` does.
+    pub fn tell_claim(&mut self, error: &MonitoringError) -> Result<(), ServeError>
+        ensures { WritesLine (trouble_line (string_bytes error.now.path) (claim_text error.now.fault)) result
+            (E.contents self.old.errors) (E.contents self.new.errors) }
+    {
+        match line_of(self.alloc, error.path(), error.fault()) {
+            Ok(line) => write_out(line.as_bytes(), &mut self.errors),
+            Err(_) => Err(ServeError::OutOfMemory),
+        }
+    }
+
+    /// Writes the line of a failure, which isn't of the log. `ServeError` as `write_out` does.
+    pub fn tell_failure(&mut self, fault: ServeError) -> Result<(), ServeError>
+        ensures { Writes (failure_line (codes "wulameron") fault) result
+            (E.contents self.old.errors) (E.contents self.new.errors) }
+    {
+        report_failure("wulameron", fault, &mut self.errors)
+    }
+
+    /// Writes the line of a failure, and gives the status that a program ends with then. The line is left out where it
+    /// can't be written.
+    pub fn fail(&mut self, fault: ServeError) -> u8
+        ensures { result ≡ 3 }
+    {
+        let _ = self.tell_failure(fault);
+        FAULT
+    }
+
+    /// Tells what keeps a program from going on, and gives the status that it ends with then. Of a log that can't be used
+    /// any more the line was written before.
+    pub fn halt(&mut self, halt: Halt) -> u8
+        ensures { result ≡ 3 }
+    {
+        match halt {
+            Halt::Serving(fault) => self.fail(fault),
+            Halt::Log(_) => FAULT,
+            Halt::Owing => {
+                let _ = self.tell(STAYS);
+                FAULT
+            }
+        }
+    }
+
+    /// Writes the line of how a program ended, where there is something wrong.
+    ///
+    /// `ServeError` as `report` does.
+    pub fn tell_end(&mut self, ended: &Result<Ending, ServeError>) -> Result<(), ServeError> {
+        report("wulameron", ended, &mut self.errors)
+    }
+
+    /// Writes what goes wrong, as a line, where it isn't what was written last. Answers it where the log isn't used any
+    /// more. The line is left out where it can't be written.
+    pub fn look<S: Troubled>(&mut self, watched: &S) -> Option<Trouble>
+        ensures { result ≡ last_of (S.trouble watched.now) }
+    {
+        let trouble = watched.trouble();
+        self.tell_new(trouble);
+        last_trouble(trouble)
+    }
+
+    fn tell_new(&mut self, trouble: Option<Trouble>) {
+        let is_known = trouble == self.told;
+        self.told = trouble;
+        if is_known {
+            return;
+        }
+        if let Some(trouble) = trouble {
+            let _ = self.tell(trouble);
+        }
+    }
+}
+
+/// The line of what goes wrong with the log of this path, which is escaped as names are.
+fn line_of<D: fmt::Display + Copy>(
+    alloc: Global,
+    path: &str,
+    wrong: D,
+) -> Result<String, AllocError>
+    ensures { (text : List ℕ) → D.output wrong ≡ Some text
+        → IfOk result (λ line. string_bytes line ≡ trouble_line path.now text) }
+{
+    let path = escaped_text(alloc, path)?;
+    format!(in alloc; "wulameron: {path}: {wrong}\n")
+}

@@ -1,0 +1,229 @@
+//! What goes wrong at a log.
+
+ghost use Rattle.std.specs.Prelude.{◌≡◌, Option};
+ghost use Rattle.iceoryx2_file_log.specs.declared.error.FileFault as declared-fault;
+ghost use Rattle.wulameron_place.specs.declared.trouble.Trouble as declared;
+ghost use Rattle.wulameron_place.specs.Troubles.{advice_of, concern_held_of, concern_of, is_last, kind_advice_of, last_of, trouble_of};
+
+use iceoryx2_file_log::cursor::State;
+use iceoryx2_file_log::error::FileFault;
+use iceoryx2_file_log::file_log::FileLog;
+use iceoryx2_journal::journal::Journal;
+use iceoryx2_log::call_log::CallLog;
+use iceoryx2_log::log::Log;
+use iceoryx2_testing::traced::Traced;
+use std::fmt;
+use std::fs::File;
+use std::io::ErrorKind;
+use std::rt::Files;
+use std::time::Clock;
+
+/// What goes wrong at a log.
+#[derive(Clone, Copy, Debug, PartialEq, Eq)]
+pub enum Trouble {
+    /// An entry is in the name of this program's node, or isn't what its world answers. Nothing is followed or
+    /// appended any more.
+    Over,
+    /// The log's file refused.
+    Refused(FileFault),
+}
+
+impl Trouble {
+    /// Whether the log isn't used any more.
+    pub fn is_last(self) -> bool
+        ensures { result ≡ is_last self }
+    {
+        match self {
+            Trouble::Over => true,
+            Trouble::Refused(fault) => match fault {
+                FileFault::Damaged { at: _ } => true,
+                FileFault::Unsure => true,
+                FileFault::Removed => true,
+                _ => false,
+            },
+        }
+    }
+}
+
+/// What can be done where the system refused by this kind.
+fn kind_advice(kind: ErrorKind) -> &'static str
+    ensures { result.now ≡ kind_advice_of kind }
+{
+    match kind {
+        ErrorKind::NotFound => "make its folder, or name another file",
+        ErrorKind::NotADirectory => "name another file",
+        ErrorKind::InvalidFilename => "name another file",
+        _ => "see whether its disk works",
+    }
+}
+
+/// What can be done where a file refused.
+pub fn advice(fault: FileFault) -> &'static str
+    ensures { result.now ≡ advice_of fault }
+{
+    match fault {
+        FileFault::IsALink => "name the file itself",
+        FileFault::IsAFolder => "name a file in it",
+        FileFault::NotAFile => "name a file",
+        FileFault::NotALog => "name another file",
+        FileFault::AnotherVersion { found: _ } => "use a program of that version",
+        FileFault::Damaged { at: _ } => "begin another log",
+        FileFault::NoPermission => "let this user read and write it",
+        FileFault::Busy => "try again, or with a longer --wait",
+        FileFault::DiskFull => "make room, and try again",
+        FileFault::OutOfMemory => "free memory, and try again",
+        FileFault::TooLong => "give the service fewer attributes",
+        FileFault::HeldAlready => "start the program again",
+        FileFault::NotHeld => "start the program again",
+        FileFault::ReadOnly => "start the program again",
+        FileFault::Unread => "start the program again",
+        FileFault::Unsure => "start the program again",
+        FileFault::Moved => "try again",
+        FileFault::Removed => "start the program again",
+        FileFault::AnotherLog => "start the program again",
+        FileFault::NothingSaved => "leave it",
+        FileFault::Failed { kind } => kind_advice(kind),
+    }
+}
+
+impl fmt::Display for Trouble {
+    ghost use Rattle.wulameron_place.specs.Troubles.{trouble_text};
+
+    ghost output = { trouble_text };
+
+    fn fmt<W: fmt::Write>(&self, f: &mut fmt::Formatter<W>) -> fmt::Result {
+        match self {
+            Trouble::Over => write!(
+                f,
+                "has an entry that this program can't follow; start it with a node of its own"
+            ),
+            Trouble::Refused(fault) => write!(f, "{fault}; {}", advice(*fault)),
+        }
+    }
+}
+
+/// What goes wrong where this is over, or its log refused last for this reason.
+pub fn trouble_with(is_over: bool, refused: Option<FileFault>) -> Option<Trouble>
+    ensures { result ≡ trouble_of is_over refused }
+{
+    if is_over {
+        return Some(Trouble::Over);
+    }
+    match refused {
+        Some(fault) => Some(Trouble::Refused(fault)),
+        None => None,
+    }
+}
+
+/// What a user has to know of why a log refused. That it goes on in another file, and that a compaction would save too
+/// little, nobody has to: the program goes on by itself.
+fn concern(fault: Option<FileFault>) -> Option<FileFault>
+    ensures { result ≡ concern_of fault }
+{
+    match fault {
+        Some(FileFault::Moved) => None,
+        Some(FileFault::NothingSaved) => None,
+        _ => fault,
+    }
+}
+
+/// The same, but for damage that was found by a handle of this state while it wasn't held.
+fn concern_held(state: State, fault: Option<FileFault>) -> Option<FileFault>
+    ensures { result ≡ concern_held_of state fault }
+{
+    match fault {
+        Some(FileFault::Damaged { at: _ }) => match state {
+            State::Damaged { at: _ } => fault,
+            _ => None,
+        },
+        _ => concern(fault),
+    }
+}
+
+/// What is over a log, at which something may go wrong.
+pub trait Troubled {
+    /// What goes wrong there.
+    ghost trouble: { Self → Option declared.Trouble };
+
+    /// What goes wrong there, or did last.
+    fn trouble(&self) -> Option<Trouble>
+        ensures { result ≡ trouble self.now };
+}
+
+/// A log that keeps why it refused.
+pub trait Refusing: Log {
+    /// Why it refused last.
+    ghost refused: { Self → Option declared-fault.FileFault };
+
+    /// Why it refused last, but for damage that was found while it wasn't held.
+    ghost refused_held: { Self → Option declared-fault.FileFault };
+
+    /// Why it refused last.
+    fn refused(&self) -> Option<FileFault>
+        ensures { result ≡ refused self.now };
+
+    /// Why it refused last, but for damage that was found while it wasn't held: others may have written over what a
+    /// writer left that died. Whoever holds it next finds out.
+    fn refused_held(&self) -> Option<FileFault>
+        ensures { result ≡ refused_held self.now };
+}
+
+impl<R: Files<File = File> + Clock + AllocGlobal> Refusing for FileLog<R> {
+    ghost refused = { λ log. concern_of log.fault };
+
+    ghost refused_held = { λ log. concern_held_of log.cursor.state log.fault };
+
+    fn refused(&self) -> Option<FileFault> {
+        concern(self.fault())
+    }
+
+    fn refused_held(&self) -> Option<FileFault> {
+        concern_held(self.state(), self.fault())
+    }
+}
+
+// Who makes calls holds it for each of them.
+impl<L: Refusing> Refusing for CallLog<L> {
+    ghost refused = { λ l. L.refused_held l.log };
+
+    ghost refused_held = { λ l. L.refused_held l.log };
+
+    fn refused(&self) -> Option<FileFault> {
+        self.log().refused_held()
+    }
+
+    fn refused_held(&self) -> Option<FileFault> {
+        self.log().refused_held()
+    }
+}
+
+impl<S: Troubled> Troubled for Traced<S> {
+    ghost trouble = { λ traced. S.trouble traced.inner };
+
+    fn trouble(&self) -> Option<Trouble> {
+        self.inner().trouble()
+    }
+}
+
+impl<L: Refusing> Troubled for Journal<L> {
+    ghost trouble = { λ journal. trouble_of journal.is_over (L.refused journal.log) };
+
+    fn trouble(&self) -> Option<Trouble> {
+        trouble_with(self.is_over(), self.log().refused())
+    }
+}
+
+/// What goes wrong, where it is the last of it.
+pub fn last_trouble(trouble: Option<Trouble>) -> Option<Trouble>
+    ensures { result ≡ last_of trouble }
+{
+    match trouble {
+        Some(trouble) => {
+            if trouble.is_last() {
+                return Some(trouble);
+            }
+            None
+        }
+        None => None,
+    }
+}
