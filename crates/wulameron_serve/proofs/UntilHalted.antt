@@ -9,9 +9,9 @@ use Rattle.negotiate_serve.specs.declared.ending.Ending.TheVariants as ending
 use Rattle.negotiate_serve.specs.Transcripts.{AnsweringLines, ComesNext, answer, no_command, no_memory}
 use Rattle.negotiate_serve.specs.Served.{AnswersAll, EndsBeforeReport, ServesLines, TakesTurn}
 use Rattle.negotiate_serve.proofs.Answering.{SoFar, turn_fails}
-use Rattle.wulameron_serve.specs.declared.lines.Halt.{Halt}
-use Rattle.wulameron_serve.specs.declared.lines.Halt.TheVariants as halt
-use Rattle.wulameron_trouble.specs.declared.trouble.Trouble.{Trouble}
+use Rattle.wulameron_place.specs.declared.halt.Halt.{Halt}
+use Rattle.wulameron_place.specs.declared.halt.Halt.TheVariants as halt
+use Rattle.wulameron_place.specs.declared.trouble.Trouble.{Trouble}
 use Rattle.wulameron_serve.specs.Lines.{seen_as, IsEndOf}
 
 -- a fault that is passed on

@@ -1,6 +1,5 @@
 pub mod Dead
-pub mod Explained
 pub mod Lines
 pub mod Served
 pub mod Shared
-pub mod Starting
+pub mod Views

@@ -7,10 +7,10 @@ use Rattle.negotiate_serve.specs.declared.ending.WrongLines.{WrongLines}
 use Rattle.negotiate_serve.specs.declared.ending.WrongLines.TheVariants as wrong_lines
 use Rattle.negotiate_serve.specs.Endings.{status_of}
 use Rattle.negotiate_serve.specs.Transcripts.{AnsweringLines}
-use Rattle.wulameron_serve.specs.declared.lines.Halt.{Halt}
-use Rattle.wulameron_serve.specs.declared.lines.Halt.TheVariants as halt
-use Rattle.wulameron_trouble.specs.declared.trouble.Trouble.{Trouble}
-use Rattle.wulameron_trouble.specs.Troubles.{last_of}
+use Rattle.wulameron_place.specs.declared.halt.Halt.{Halt}
+use Rattle.wulameron_place.specs.declared.halt.Halt.TheVariants as halt
+use Rattle.wulameron_place.specs.declared.trouble.Trouble.{Trouble}
+use Rattle.wulameron_place.specs.Troubles.{last_of}
 
 -- A log can be used: nothing went wrong, or not for the last time.
 abbrev pub IsUsable : Option Trouble → Type 0
@@ -26,12 +26,7 @@ abbrev pub seen_as : Result Ending Halt → Result Ending ServeError
 seen_as (Ok ending) = Ok ending
 seen_as (Err (halt.Serving f)) = Err f
 seen_as (Err (halt.Log t)) = Err failure.Reading
-
--- It ends by the log or out of memory, as where a node can't start.
-abbrev pub is_not_started : Result Ending Halt → Bool
-is_not_started (Err (halt.Log t)) = true
-is_not_started (Err (halt.Serving failure.OutOfMemory)) = true
-is_not_started _ = false
+seen_as (Err halt.Owing) = Err failure.Reading
 
 -- A log by which it ends isn't used any more, for this reason.
 abbrev pub IsEndOf : Option Trouble → Result Ending Halt → Type 0

@@ -1,39 +1,43 @@
 -- What a program answers to an input for its node.
-use Rattle.std.specs.Prelude.{◌≡◌, ◌⊎◌, ℕ, Bool, true, false, List, [], ◌∷◌, Option, Result, IfOk}
+use Rattle.std.specs.Prelude.{◌≡◌, ◌⊎◌, ℕ, Bool, true, false, List, [], codes, Option, Result, Err, IfOk, IsErrAnd}
 use Rattle.iceoryx2_access.specs.Letter.{Letter}
-use Rattle.iceoryx2_world.specs.World.{World, empty_world}
+use Rattle.iceoryx2_testing.specs.Trace.{TracedState, IsTracedAccess}
+use Rattle.iceoryx2_world.specs.World.{World}
 use Rattle.iceoryx2_world.specs.Across.{Agrees}
 use Rattle.iceoryx2_file_log.specs.declared.error.FileFault.{FileFault}
 use Rattle.iceoryx2_journal.specs.Journal.{JournalState, IsAccessOver, Spans}
+use Rattle.iceoryx2_journal.specs.Owed.{OwesNothing}
 use Rattle.iceoryx2_journal.specs.Replay.{Lives}
-use Rattle.iceoryx2_journal.specs.Taking.{is_own}
 use Rattle.iceoryx2_log.specs.Log.{Contents}
-use Rattle.iceoryx2_session.specs.CommandWords.{ClosesHeld}
+use Rattle.iceoryx2_session.specs.CommandWords.{ClosesHeld, ShowsOthers, SpansSession, SpansTraced}
 use Rattle.iceoryx2_session.specs.Sessions.{SessionOver}
 use Rattle.negotiate_serve.specs.declared.ending.Ending.{Ending}
 use Rattle.negotiate_serve.specs.declared.ending.WrongLines.{WrongLines}
 use Rattle.negotiate_serve.specs.Transcripts.{AnsweringLines, LinesBy, MayEnd}
 use Rattle.negotiate_serve.specs.Served.{ServesLines}
-use Rattle.wulameron_serve.specs.declared.lines.Halt.{Halt}
-use Rattle.wulameron_serve.specs.Lines.{AnswersWhileUsable, is_not_started, seen_as}
-use Rattle.wulameron_serve.specs.Shared.{AnswersFor, Refreshes, fresh_session}
-use Rattle.wulameron_trouble.specs.Troubles.{trouble_of}
-use Rattle.wulameron_trouble.specs.declared.trouble.Trouble.{Trouble}
+use Rattle.explain_serve.specs.Traces.{TracedOver, fresh_trace}
+use Rattle.wulameron_place.specs.declared.halt.Halt.{Halt}
+use Rattle.wulameron_place.specs.declared.halt.Halt.TheVariants as halt
+use Rattle.wulameron_place.specs.declared.trouble.Trouble.{Trouble}
+use Rattle.wulameron_place.specs.Halts.{is_of_start}
+use Rattle.wulameron_place.specs.Starting.{IsStarted}
+use Rattle.wulameron_place.specs.Troubles.{trouble_of}
+use Rattle.wulameron_serve.specs.Lines.{AnswersWhileUsable, seen_as}
+use Rattle.wulameron_serve.specs.Shared.{AnswersWith, fresh_session}
+use Rattle.wulameron_serve.specs.Views.{Writing, WritesExplained, WritesPlain}
 
-module _ {S : Type 0} (spans : S → S → Type 0) (step : S → Letter → S → Type 0) (world : S → World)
-    (own : S → ℕ → Bool) (trouble : S → Option Trouble) (node : ℕ) (w : WrongLines) where
+module _ {S : Type 0} (settles shows spans : S → S → Type 0) (step : S → Letter → S → Type 0) (world : S → World)
+    (trouble : S → Option Trouble) (writes : Writing S) (ending : List ℕ) (node : ℕ) (w : WrongLines) where
   -- how lines are answered for the node, as long as the log can be used
   abbrev pub AnswersLinesFor : AnsweringLines (SessionOver S)
   AnswersLinesFor = AnswersWhileUsable (λ s. trouble s.table)
-      (LinesBy w (λ old line c text new. AnswersFor spans step world own node line old c text new))
+      (LinesBy w (λ old line c text new. AnswersWith settles shows spans step world writes node line ending
+      old c text new))
 
-  -- What dead nodes have is given back, from a session on that has done nothing yet. Then the writer has taken what is
-  -- said of an input for the node, and nothing else. At last the factories of a session's slots are closed, and the
-  -- world agrees.
-  pub record Serves (storage : S) (ended : Result Ending Halt) (left : S) (input : List ℕ)
+  -- The writer has taken what is said of an input for the node, and nothing else. At last the factories of a session's
+  -- slots are closed, and the world agrees.
+  pub record Serves (first : SessionOver S) (ended : Result Ending Halt) (left : S) (input : List ℕ)
       (old new : Option (List ℕ)) : Type 0 where
-    pub first : SessionOver S
-    pub cleaned : Refreshes world own (fresh_session storage) first
     pub unread : List ℕ
     pub serves : ServesLines AnswersLinesFor first (seen_as ended) input unread old new
     pub may_end : IfOk ended (MayEnd w)
@@ -41,30 +45,49 @@ module _ {S : Type 0} (spans : S → S → Type 0) (step : S → Letter → S �
     pub closed : ClosesHeld spans step last.table last.slots left
     pub agrees : Agrees (world left)
 
--- a journal of no node that has taken nothing over yet
-abbrev pub first_journal : {L : Type 0} → L → ℕ → JournalState L
-first_journal log counter = record { world = empty_world counter; log = log; nodes = []; is_over = false; is_lost = false }
+-- What the node still has is given back, and where it ends well it has nothing any more. Else it ends as lines were
+-- served, or since something stays.
+pub record EndsSettled {S : Type 0} (settles : S → S → Type 0) (is_settled : S → ℕ → List ℕ → Type 0) (node : ℕ)
+    (left : S) (served ended : Result Ending Halt) : Type 0 where
+  pub last : S
+  pub gives : settles left last
+  pub rest : IfOk ended (λ ending. is_settled last node [])
+  pub ends : (ended ≡ served) ⊎ (ended ≡ Err halt.Owing)
 
--- The same over a journal that has this node alone, after what the node had was given back.
-pub record StartsLog {L : Type 0} (contents : L → Option Contents) (held : L → Bool) (refused : L → Option FileFault)
-    (log : L) (counter node : ℕ) (w : WrongLines) (ended : Result Ending Halt) (input : List ℕ)
-    (old new : Option (List ℕ)) : Type 0 where
-  pub journal : JournalState L
-  pub lives : Lives contents (first_journal log counter) journal
-  pub nodes : journal.nodes ≡ node ∷ []
-  pub first : SessionOver (JournalState L)
-  pub cleaned : Refreshes (λ j. j.world) (λ j. is_own j.nodes) (fresh_session journal) first
-  pub unread : List ℕ
-  pub serves : ServesLines
-      (AnswersLinesFor (Spans contents) (IsAccessOver contents held) (λ j. j.world) (λ j. is_own j.nodes)
-      (λ j. trouble_of j.is_over (refused j.log)) node w)
-      first (seen_as ended) input unread old new
-  pub may_end : IfOk ended (MayEnd w)
+-- what goes wrong at a journal
+abbrev pub trouble_at : {L : Type 0} → (refused : L → Option FileFault) → JournalState L → Option Trouble
+trouble_at refused j = trouble_of j.is_over (refused j.log)
 
--- It does so; or it ends by the log or out of memory, and nothing is written.
-abbrev pub ServesLog : {L : Type 0} → (contents : L → Option Contents) → (held : L → Bool)
-    → (refused : L → Option FileFault) → L → (counter node : ℕ) → WrongLines → Result Ending Halt → (input : List ℕ)
-    → (old new : Option (List ℕ)) → Type 0
-ServesLog contents held refused log counter node w ended input old new =
-    StartsLog contents held refused log counter node w ended input old new
-    ⊎ (is_not_started ended ≡ true) × (new ≡ old)
+module _ {L : Type 0} (contents : L → Option Contents) (held : L → Bool) (refused : L → Option FileFault) (log : L)
+    (counter node : ℕ) (w : WrongLines) where
+  -- The node is started over a journal of the log, what dead nodes have is given back, and then it serves.
+  pub record StartsLog (ended : Result Ending Halt) (input : List ℕ) (old new : Option (List ℕ)) : Type 0 where
+    pub journal : JournalState L
+    pub started : IsStarted contents refused log counter node journal
+    pub first : SessionOver (JournalState L)
+    pub cleaned : SpansSession ShowsOthers (fresh_session journal) first
+    pub served : Result Ending Halt
+    pub left : JournalState L
+    pub settles : EndsSettled (Lives contents) (λ j. OwesNothing j.world) node left served ended
+    pub serves : Serves (Lives contents) ShowsOthers (Spans contents) (IsAccessOver contents held) (λ j. j.world)
+        (trouble_at refused) WritesPlain [] node w first served left input old new
+
+  -- The same, with each reply explained.
+  pub record StartsLogExplained (ended : Result Ending Halt) (input : List ℕ) (old new : Option (List ℕ)) : Type 0 where
+    pub journal : JournalState L
+    pub started : IsStarted contents refused log counter node journal
+    pub first : TracedOver (JournalState L)
+    pub cleaned : SpansSession (SpansTraced ShowsOthers) (fresh_session (fresh_trace journal)) first
+    pub served : Result Ending Halt
+    pub left : TracedState (JournalState L)
+    pub settles : EndsSettled (SpansTraced (Lives contents)) (λ t. OwesNothing t.inner.world) node left served ended
+    pub serves : Serves (SpansTraced (Lives contents)) (SpansTraced ShowsOthers) (SpansTraced (Spans contents))
+        (IsTracedAccess (IsAccessOver contents held)) (λ t. t.inner.world) (λ t. trouble_at refused t.inner)
+        (WritesExplained (IsAccessOver contents held) (λ j. j.world)) (codes "\n") node w first served left input old new
+
+  -- It serves so; or it ends by the log or out of memory, and nothing is written.
+  pub data ServesLog (explains : Bool) (ended : Result Ending Halt) (input : List ℕ) (old new : Option (List ℕ))
+      : Type 0 where
+    plain : explains ≡ false → StartsLog ended input old new → ServesLog explains ended input old new
+    explained : explains ≡ true → StartsLogExplained ended input old new → ServesLog explains ended input old new
+    not_started : IsErrAnd ended (λ h. is_of_start h ≡ true) → new ≡ old → ServesLog explains ended input old new

@@ -1,67 +1,96 @@
 -- How lines are answered over a storage that processes share.
-use Rattle.std.specs.Prelude.{◌≡◌, ◌≢◌, ℕ, Bool, true, false, List, None, ◌++◌, codes, decimal, replicate}
+use Rattle.std.specs.Prelude.{◌≡◌, ◌≢◌, ◌⊎◌, ℕ, Bool, true, false, List, [], None, ◌++◌, codes, decimal, replicate}
 use Rattle.iceoryx2_description.specs.Defaults.{default_config}
 use Rattle.iceoryx2_access.specs.Letter.{Letter}
 use Rattle.iceoryx2_world.specs.World.{World}
 use Rattle.iceoryx2_world.specs.Across.{Agrees}
-use Rattle.iceoryx2_world.specs.Interference.{Rely}
 use Rattle.iceoryx2_commands.specs.declared.command.Call.{Call}
 use Rattle.iceoryx2_commands.specs.declared.command.Command.{Command}
 use Rattle.iceoryx2_commands.specs.declared.command.Command.TheVariants as command
 use Rattle.iceoryx2_commands.specs.declared.command.Reply.{Reply}
 use Rattle.iceoryx2_commands.specs.Commands.{slot_count}
 use Rattle.iceoryx2_session.specs.Sessions.{SessionOver, shown_session}
-use Rattle.iceoryx2_session.specs.CommandWords.{AppliesHeld}
+use Rattle.iceoryx2_session.specs.CommandWords.{AppliesHeld, SpansSession}
 use Rattle.iceoryx2_session.specs.StandingSlots.{SlotsStandInWorld}
 use Rattle.negotiate_lines.specs.declared.line.Line.TheVariants as parsed
 use Rattle.negotiate_lines.specs.Lines.{IsLine}
-use Rattle.negotiate_serve.specs.Replies.{IsReplyText}
+use Rattle.explain_serve.specs.Traces.{TracedOver}
 use Rattle.wulameron_serve.specs.Dead.{is_blocked}
+use Rattle.wulameron_serve.specs.Views.{Writing, WritesPlain}
 
 -- what is written of a line that names another node
 abbrev pub not_ours : ℕ → List ℕ
 not_ours node = codes "node " ++ decimal node ++ codes " is not this program's\n"
 
-module _ {S : Type 0} (world : S → World) (own : S → ℕ → Bool) where
-  -- The session shows another world, in which all stayed that its own nodes rely on. Its slots hold what they held.
-  pub record Refreshes (old new : SessionOver S) : Type 0 where
-    pub slots : new ≡ record old { table = new.table }
-    pub nodes : own new.table ≡ own old.table
-    pub kept : Rely (own old.table) (world old.table) (world new.table)
+-- Between two lines the world agrees, the factories of all slots stand, the node is one of its own, and the storage is
+-- ready for the next one.
+pub record StandsFor {S : Type 0} (world : S → World) (own : S → ℕ → Bool) (ready : S → Type 0) (node : ℕ)
+    (s : SessionOver S) : Type 0 where
+  pub agrees : Agrees (world s.table)
+  pub stand : SlotsStandInWorld (own s.table) (shown_session world s)
+  pub of_own : own s.table node ≡ true
+  pub is_ready : ready s.table
 
-  -- Between two lines the world agrees, the factories of all slots stand, and the node is one of its own.
-  pub record StandsFor (node : ℕ) (s : SessionOver S) : Type 0 where
-    pub agrees : Agrees (world s.table)
-    pub stand : SlotsStandInWorld (own s.table) (shown_session world s)
-    pub of_own : own s.table node ≡ true
+-- A line's command is carried out, and what is written is its reply.
+pub record Replies {S : Type 0} (spans : S → S → Type 0) (step : S → Letter → S → Type 0) (world : S → World)
+    (writes : Writing S) (line : List ℕ) (old : SessionOver S) (c : Command) (answer : Reply) (text : List ℕ)
+    (new : SessionOver S) : Type 0 where
+  pub is : AppliesHeld spans step world old c answer new
+  pub is_written : writes line c answer is.first is.last new.table text
 
-module _ {S : Type 0} (spans : S → S → Type 0) (step : S → Letter → S → Type 0) (world : S → World)
-    (own : S → ℕ → Bool) (node : ℕ) (line : List ℕ) where
-  -- What is written after a refusal of which a dead node may be the reason: what dead nodes have is given back, and the
-  -- refusal stays, or the line's call is made once more.
-  pub data AnswersAgain (refused : Reply) (slot : ℕ) (old new : SessionOver S) (text : List ℕ) : Type 0 where
-    stays : Refreshes world own old new → IsReplyText slot refused text → AnswersAgain refused slot old new text
-    again : (call : Call) (answer : Reply) (mid : SessionOver S) → IsLine line (parsed.Command (command.Call call))
-        → call.node ≡ node → Refreshes world own old mid → AppliesHeld spans step world mid (command.Call call) answer new
-        → IsReplyText call.slot answer text → AnswersAgain refused slot old new text
-
-  -- How a command is answered for this node: not where it names another node, by the session's reply to a call or a
-  -- close, once more after a refusal of which a dead node may be the reason, and by a listing after what others did was
-  -- shown.
+module _ {S : Type 0} (shows spans : S → S → Type 0) (step : S → Letter → S → Type 0) (world : S → World)
+    (writes : Writing S) (node : ℕ) (line : List ℕ) where
+  -- How a command is answered for this node: not where it names another node, and by the session's reply. After a
+  -- refusal of which a dead node may be the reason, what dead nodes have is given back, and the refusal stays, or the
+  -- line's call is made once more.
   pub data AnswersFor (old : SessionOver S) : Command → (text : List ℕ) → SessionOver S → Type 0 where
     of_another : {call : Call} → call.node ≢ node → AnswersFor old (command.Call call) (not_ours call.node) old
     called : {call : Call} {text : List ℕ} {new : SessionOver S} (answer : Reply) → call.node ≡ node
-        → AppliesHeld spans step world old (command.Call call) answer new → is_blocked answer ≡ false
-        → IsReplyText call.slot answer text → AnswersFor old (command.Call call) text new
-    blocked : {call : Call} {text : List ℕ} {new : SessionOver S} (answer : Reply) (mid : SessionOver S)
-        → call.node ≡ node → AppliesHeld spans step world old (command.Call call) answer mid → is_blocked answer ≡ true
-        → AnswersAgain answer call.slot mid new text → AnswersFor old (command.Call call) text new
+        → is_blocked answer ≡ false → Replies spans step world writes line old (command.Call call) answer text new
+        → AnswersFor old (command.Call call) text new
+    stays : {call : Call} {text : List ℕ} {new : SessionOver S} (answer : Reply) (mid : SessionOver S)
+        → call.node ≡ node → is_blocked answer ≡ true
+        → (is : AppliesHeld spans step world old (command.Call call) answer mid) → SpansSession shows mid new
+        → writes line (command.Call call) answer is.first is.last new.table text
+        → AnswersFor old (command.Call call) text new
+    again : {call : Call} {text : List ℕ} {new : SessionOver S} (refused answer : Reply) (mid cleaned : SessionOver S)
+        → (once : Call) → call.node ≡ node → is_blocked refused ≡ true
+        → AppliesHeld spans step world old (command.Call call) refused mid → SpansSession shows mid cleaned
+        → IsLine line (parsed.Command (command.Call once)) → once.node ≡ node
+        → Replies spans step world writes line cleaned (command.Call once) answer text new
+        → AnswersFor old (command.Call call) text new
     closed : {slot : ℕ} {text : List ℕ} {new : SessionOver S} (answer : Reply)
-        → AppliesHeld spans step world old (command.Close slot) answer new → IsReplyText slot answer text
+        → Replies spans step world writes line old (command.Close slot) answer text new
         → AnswersFor old (command.Close slot) text new
-    listed : {text : List ℕ} {new : SessionOver S} (answer : Reply) (mid : SessionOver S)
-        → Refreshes world own old mid → AppliesHeld spans step world mid command.List answer new → IsReplyText 0 answer text
-        → AnswersFor old command.List text new
+    listed : {text : List ℕ} {new : SessionOver S} (answer : Reply)
+        → Replies spans step world writes line old command.List answer text new → AnswersFor old command.List text new
+
+-- What the node owes of earlier commands is given back, or none of it may be owed.
+abbrev pub GivesBack : {S : Type 0} → (settles : S → S → Type 0) → SessionOver S → SessionOver S → Type 0
+GivesBack settles old new = (new ≡ old) ⊎ SpansSession settles old new
+
+module _ {S : Type 0} (settles shows spans : S → S → Type 0) (step : S → Letter → S → Type 0) (world : S → World)
+    (writes : Writing S) (node : ℕ) (line : List ℕ) where
+  -- A command is answered after that, and after what others did was shown, with this behind the answer.
+  pub record AnswersWith (ending : List ℕ) (old : SessionOver S) (c : Command) (text : List ℕ) (new : SessionOver S)
+      : Type 0 where
+    pub settled : SessionOver S
+    pub gives : GivesBack settles old settled
+    pub shown : SessionOver S
+    pub looks : SpansSession shows settled shown
+    pub output : List ℕ
+    pub answers : AnswersFor shows spans step world writes node line shown c output new
+    pub are : text ≡ output ++ ending
+
+-- The text begins with what is written without explanations, over the storage inside.
+pub record BeginsAsAnswered {S : Type 0} (settles shows spans : S → S → Type 0) (step : S → Letter → S → Type 0)
+    (world : S → World) (node : ℕ) (line : List ℕ) (old : TracedOver S) (c : Command) (text : List ℕ)
+    (new : TracedOver S) : Type 0 where
+  pub output : List ℕ
+  pub explanation : List ℕ
+  pub are : text ≡ output ++ explanation
+  pub answers : AnswersWith settles shows spans step world WritesPlain node line []
+      (shown_session (λ traced. traced.inner) old) c output (shown_session (λ traced. traced.inner) new)
 
 -- a session over this storage that has done nothing yet
 abbrev pub fresh_session : {S : Type 0} → S → SessionOver S

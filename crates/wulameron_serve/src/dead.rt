@@ -8,7 +8,7 @@ ghost use Rattle.wulameron_serve.specs.Dead.{blocks_publish_subscribe_create, bl
 ghost use Rattle.wulameron_serve.specs.Dead.{blocks_publish_subscribe_open_or_create};
 ghost use Rattle.wulameron_serve.specs.Dead.{blocks_request_response_create, blocks_request_response_open};
 ghost use Rattle.wulameron_serve.specs.Dead.{blocks_request_response_open_or_create};
-ghost use Rattle.wulameron_serve.specs.Shared.{Refreshes};
+ghost use Rattle.iceoryx2_session.specs.CommandWords.{SpansSession};
 
 use iceoryx2_commands::command::{Refusal, Reply};
 use iceoryx2_errors::error::{
@@ -20,7 +20,7 @@ use iceoryx2_journal::cleaning::{CleanError, Cleaned};
 use iceoryx2_session::session::Session;
 use iceoryx2_session::world_storage::WorldStorage;
 use std::alloc::Global;
-use wulameron_clean::dead::DeadNodes;
+use wulameron_place::dead::DeadNodes;
 
 // Whether a dead node may be the reason.
 fn event_open_is_blocked(error: EventOpenError) -> bool
@@ -173,7 +173,7 @@ fn gave(cleaned: Result<Cleaned, CleanError>) -> bool {
 
 /// Gives back what a node has, if it is dead. True where anything was given back.
 fn clean_one<S: WorldStorage, D: DeadNodes>(session: &mut Session<S>, dead: &D, node: u64) -> bool
-    ensures { Refreshes S.world S.own (own_state session.old) (own_state session.new) }
+    ensures { SpansSession S.shows (own_state session.old) (own_state session.new) }
 {
     let Ok(claim) = dead.claim(node) else {
         return false;
@@ -189,7 +189,7 @@ pub fn clean_dead<S: WorldStorage, D: DeadNodes>(
     session: &mut Session<S>,
     dead: &D,
 ) -> bool
-    ensures { Refreshes S.world S.own (own_state session.old) (own_state session.new) }
+    ensures { SpansSession S.shows (own_state session.old) (own_state session.new) }
 {
     let mut given = false;
     for node in dead.found(alloc) {

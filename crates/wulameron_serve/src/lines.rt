@@ -5,43 +5,23 @@ ghost use Rattle.negotiate_serve.specs.Served.{AnswersAll, ServesLines};
 ghost use Rattle.negotiate_serve.specs.Transcripts.{LinesBy, MayEnd};
 ghost use Rattle.wulameron_serve.specs.Lines.{AnswersWhileUsable, IsEndOf, IsUsable, seen_as};
 
-use negotiate_serve::answer::answer_next;
+use negotiate_serve::answer::{Buffers, answer_next};
 use negotiate_serve::answerer::Answerer;
 use negotiate_serve::ending::{Ending, ServeError, WrongLines};
 use negotiate_serve::serve::write_failure;
-use std::alloc::Global;
 use std::io::{BufRead, BufReader, Read, Write};
-use wulameron_trouble::trouble::{Trouble, Troubled, Watch};
-
-/// What keeps the program from going on.
-#[derive(Clone, Copy, Debug, PartialEq, Eq)]
-pub enum Halt {
-    /// The input, the output or memory, as in `negotiate`.
-    Serving(ServeError),
-    /// The log can't be used any more, of which the writer of errors has a line.
-    Log(Trouble),
-}
-
-impl From<ServeError> for Halt {
-    ghost use Rattle.wulameron_serve.specs.declared.lines.Halt.TheVariants as halt;
-
-    ghost from_gives = { λ fault given. given ≡ halt.Serving fault };
-
-    fn from(fault: ServeError) -> Halt {
-        Halt::Serving(fault)
-    }
-}
+use wulameron_place::halt::Halt;
+use wulameron_place::reports::Reports;
+use wulameron_place::trouble::Troubled;
 
 /// Answers each line of an input, until it ends as in `serve_by`, or the log can't be used any more. A line that is
 /// neither blank nor a command ends it or has a reply, by `wrong_lines`. It writes what the answerer answers, such
-/// replies and nothing else, and on the writer of errors what goes wrong at the log, after the line at which it does.
+/// replies and nothing else, and tells what goes wrong at the log, after the line at which it does.
 pub fn serve_until<A: Answerer + Troubled, R: Read + Drop, W: Write, E: Write>(
-    alloc: Global,
     input: R,
     output: &mut W,
-    errors: &mut E,
     answerer: &mut A,
-    watch: &mut Watch<'_>,
+    reports: &mut Reports<'_, E>,
     wrong_lines: WrongLines,
 ) -> Result<Ending, Halt>
     requires stands { A.stands answerer.old }
@@ -53,16 +33,8 @@ pub fn serve_until<A: Answerer + Troubled, R: Read + Drop, W: Write, E: Write>(
     ensures stands { A.stands answerer.new }
     ensures log { IsEndOf (A.trouble answerer.new) result }
 {
-    match BufReader::new(alloc, input) {
-        Ok(mut reader) => serve_lines(
-            alloc,
-            &mut reader,
-            output,
-            errors,
-            answerer,
-            watch,
-            wrong_lines,
-        ),
+    match BufReader::new(reports.alloc(), input) {
+        Ok(mut reader) => serve_lines(&mut reader, output, answerer, reports, wrong_lines),
         Err(error) => {
             let fault = write_failure(ServeError::of_reading(&error), output);
             Err(Halt::Serving(fault))
@@ -70,14 +42,12 @@ pub fn serve_until<A: Answerer + Troubled, R: Read + Drop, W: Write, E: Write>(
     }
 }
 
-/// Does so for what a reader has left.
+/// Answers each line that a reader has left, and writes a failure.
 fn serve_lines<A: Answerer + Troubled, R: BufRead, W: Write, E: Write>(
-    alloc: Global,
     reader: &mut R,
     output: &mut W,
-    errors: &mut E,
     answerer: &mut A,
-    watch: &mut Watch<'_>,
+    reports: &mut Reports<'_, E>,
     wrong_lines: WrongLines,
 ) -> Result<Ending, Halt>
     requires stands { A.stands answerer.old }
@@ -89,10 +59,11 @@ fn serve_lines<A: Answerer + Troubled, R: BufRead, W: Write, E: Write>(
     ensures stands { A.stands answerer.new }
     ensures log { IsEndOf (A.trouble answerer.new) result }
 {
-    match answer_lines(alloc, reader, output, errors, answerer, watch, wrong_lines) {
+    match answer_lines(reader, output, answerer, reports, wrong_lines) {
         Ok(ending) => Ok(ending),
         Err(halt) => match halt {
             Halt::Log(trouble) => Err(Halt::Log(trouble)),
+            Halt::Owing => Err(Halt::Owing),
             Halt::Serving(fault) => {
                 let fault = write_failure(fault, output);
                 Err(Halt::Serving(fault))
@@ -103,12 +74,10 @@ fn serve_lines<A: Answerer + Troubled, R: BufRead, W: Write, E: Write>(
 
 /// Answers line after line. A failure isn't written here.
 fn answer_lines<A: Answerer + Troubled, R: BufRead, W: Write, E: Write>(
-    alloc: Global,
     reader: &mut R,
     output: &mut W,
-    errors: &mut E,
     answerer: &mut A,
-    watch: &mut Watch<'_>,
+    reports: &mut Reports<'_, E>,
     wrong_lines: WrongLines,
 ) -> Result<Ending, Halt>
     requires stands { A.stands answerer.old }
@@ -120,22 +89,13 @@ fn answer_lines<A: Answerer + Troubled, R: BufRead, W: Write, E: Write>(
     ensures stands { A.stands answerer.new }
     ensures log { IsEndOf (A.trouble answerer.new) result }
 {
-    let mut line = Vec::new(alloc);
-    let mut text = String::new(alloc);
+    let mut buffers = Buffers::new(reports.alloc());
     for number in 1..u64::MAX {
-        let ending = answer_next(
-            number,
-            wrong_lines,
-            reader,
-            output,
-            answerer,
-            &mut line,
-            &mut text,
-        )?;
+        let ending = answer_next(number, wrong_lines, reader, output, answerer, &mut buffers)?;
         if let Some(ending) = ending {
             return Ok(ending);
         }
-        if let Some(trouble) = watch.look(answerer, errors) {
+        if let Some(trouble) = reports.look(answerer) {
             return Err(Halt::Log(trouble));
         }
     }

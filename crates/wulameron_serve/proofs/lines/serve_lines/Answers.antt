@@ -1,7 +1,7 @@
 use Rattle.std.proofs.Common.{Err, subst}
 use Rattle.negotiate_serve.specs.Served.{AnswersAll}
 use Rattle.negotiate_serve.proofs.Answering.{served, served_to_failure}
-use Rattle.wulameron_serve.specs.declared.lines.Halt.{Halt}
+use Rattle.wulameron_place.specs.declared.halt.Halt.{Halt}
 use Rattle.negotiate_serve.specs.Transcripts.{LinesBy}
 use Rattle.wulameron_serve.specs.Lines.{AnswersWhileUsable, IsEndOf, seen_as}
 use Rattle.wulameron_serve.proofs.UntilHalted.{served_to_halt}
@@ -30,6 +30,21 @@ returns-in-Log-clause-stands g c = c.answer_lines.ensures.stands
 
 pub returns-in-Log-clause-log : goal.returns-in-Log-clause-log
 returns-in-Log-clause-log g c = subst (λ (h : Halt). IsEndOf (g.A.Troubled.trouble c.answer_lines.new.answerer) (Err h)) c.in-Log.is c.in-Err.ensures.log
+
+pub returns-in-Owing-clause-serves : goal.returns-in-Owing-clause-serves
+returns-in-Owing-clause-serves g c = λ input known.
+    let Usable = AnswersWhileUsable g.A.Troubled.trouble (LinesBy c.args.wrong_lines g.A.Answerer.answers) in
+    let left = g.R.Read.remaining c.answer_lines.new.reader in
+    let old = g.W.Write.contents c.args.output.now in
+    let new = g.W.Write.contents c.answer_lines.new.output in
+    served_to_halt Usable c.args.answerer.now input left old new
+    (subst (λ (h : Halt). AnswersAll Usable c.args.answerer.now (seen_as (Err h)) input left old new) c.in-Owing.is (c.in-Err.ensures.answered input known))
+
+pub returns-in-Owing-clause-stands : goal.returns-in-Owing-clause-stands
+returns-in-Owing-clause-stands g c = c.answer_lines.ensures.stands
+
+pub returns-in-Owing-clause-log : goal.returns-in-Owing-clause-log
+returns-in-Owing-clause-log g c = subst (λ (h : Halt). IsEndOf (g.A.Troubled.trouble c.answer_lines.new.answerer) (Err h)) c.in-Owing.is c.in-Err.ensures.log
 
 pub returns-in-Serving-clause-serves : goal.returns-in-Serving-clause-serves
 returns-in-Serving-clause-serves g c = λ input known.

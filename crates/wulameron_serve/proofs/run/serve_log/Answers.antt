@@ -1,33 +1,59 @@
-use Rattle.std.proofs.Common.{ℕ, false, List, inl, inr, sym, ap, subst, ◌∙◌}
-use Rattle.iceoryx2_world.specs.Across.{Agrees}
-use Rattle.iceoryx2_world.proofs.agreement.Empty.{empty_agrees}
-use Rattle.iceoryx2_world.specs.World.{empty_world}
-use Rattle.iceoryx2_journal.specs.Journal.{JournalState}
+use Rattle.std.proofs.Common.{◌≡◌, ℕ, Bool, List, [], Option, Result, codes, subst}
+use Rattle.iceoryx2_journal.specs.Journal.{IsAccessOver, JournalState, Spans}
 use Rattle.iceoryx2_journal.specs.Replay.{Lives}
-use Rattle.wulameron_serve.specs.Served.{ServesLog}
+use Rattle.iceoryx2_log.specs.Log.{Contents}
+use Rattle.iceoryx2_session.specs.CommandWords.{ShowsOthers, SpansSession, SpansTraced}
+use Rattle.iceoryx2_session.specs.Sessions.{SessionOver}
+use Rattle.iceoryx2_session.specs.SessionStates.{own_state}
+use Rattle.iceoryx2_testing.specs.Trace.{IsTracedAccess, TracedState}
+use Rattle.negotiate_serve.specs.declared.ending.Ending.{Ending}
+use Rattle.negotiate_serve.specs.declared.ending.WrongLines.{WrongLines}
+use Rattle.explain_serve.specs.Traces.{TracedOver}
+use Rattle.wulameron_place.specs.declared.halt.Halt.{Halt}
+use Rattle.wulameron_place.specs.declared.trouble.Trouble.{Trouble}
+use Rattle.wulameron_serve.specs.Served.{Serves, explained, plain, trouble_at}
+use Rattle.wulameron_serve.specs.Shared.{fresh_session}
+use Rattle.wulameron_serve.specs.Views.{WritesExplained, WritesPlain}
 use Rattle.wulameron_serve.proofs.run.serve_log.Goals as goal
 
-abbrev fresh : {L : Type 0} → L → ℕ → List ℕ → JournalState L
-fresh log counter nodes = record { world = empty_world counter; log = log; nodes = nodes; is_over = false; is_lost = false }
+-- It serves for the node and the wrong lines that these are.
 
-pub serve-ended-requires-clause-agrees : goal.serve-ended-requires-clause-agrees
-serve-ended-requires-clause-agrees g c =
-    c.start-started.ensures.agrees (subst (λ (j : JournalState g.row.L.Denot). Agrees j.world) (sym c.starting_at-journal.ensures) (empty_agrees c.args.counter))
+serves_so : {L : Type 0} (C : L → Option Contents) (H : L → Bool) (T : JournalState L → Option Trouble) (first : SessionOver (JournalState L)) (ended : Result Ending Halt) (left : JournalState L) (bytes : List ℕ) (old new : Option (List ℕ))
+    (m n : ℕ) (v w : WrongLines) → m ≡ n → v ≡ w → Serves (Lives C) ShowsOthers (Spans C) (IsAccessOver C H) (λ j. j.world) T WritesPlain [] m v first ended left bytes old new → Serves (Lives C) ShowsOthers (Spans C) (IsAccessOver C H) (λ j. j.world) T WritesPlain [] n w first ended left bytes old new
+serves_so C H T first ended left bytes old new m n v w same also serves =
+    subst (λ (k : ℕ). Serves (Lives C) ShowsOthers (Spans C) (IsAccessOver C H) (λ j. j.world) T WritesPlain [] k w first ended left bytes old new) same (subst (λ (x : WrongLines). Serves (Lives C) ShowsOthers (Spans C) (IsAccessOver C H) (λ j. j.world) T WritesPlain [] m x first ended left bytes old new) also serves)
 
-pub returns-in-Ok : goal.returns-in-Ok
-returns-in-Ok g c = λ bytes known.
-    let journal = c.start-started.new.journal in
-    let first = c.starting_at-journal.ensures ∙ ap (λ (ns : List ℕ). fresh c.args.log c.args.counter ns) c.new.ensures.items in
-    elim (c.serve-ended.ensures bytes known) as (λ x. ServesLog g.L.Log.contents g.L.Log.held g.L.Refusing.refused c.args.log c.args.counter c.args.node c.args.wrong_lines c.serve-ended.result.0 bytes (g.W.Write.contents c.args.output.now) (g.W.Write.contents c.serve-ended.new.output)) [
-      | inl s ↦ inl (record {
-        journal = journal;
-        lives = subst (λ (j : JournalState g.row.L.Denot). Lives g.L.Log.contents j journal) first c.start-started.ensures.lives;
-        nodes = c.in-Ok.ensures.nodes;
-        first = s.first;
-        cleaned = s.cleaned;
-        unread = s.unread;
-        serves = s.serves;
-        may_end = s.may_end;
-      })
-      | inr x ↦ inr x
-    ]
+explains_so : {L : Type 0} (C : L → Option Contents) (H : L → Bool) (T : JournalState L → Option Trouble) (first : TracedOver (JournalState L)) (ended : Result Ending Halt) (left : TracedState (JournalState L)) (bytes : List ℕ) (old new : Option (List ℕ))
+    (m n : ℕ) (v w : WrongLines) → m ≡ n → v ≡ w → Serves (SpansTraced (Lives C)) (SpansTraced ShowsOthers) (SpansTraced (Spans C)) (IsTracedAccess (IsAccessOver C H)) (λ t. t.inner.world) (λ t. T t.inner) (WritesExplained (IsAccessOver C H) (λ j. j.world)) (codes "\n") m v first ended left bytes old new → Serves (SpansTraced (Lives C)) (SpansTraced ShowsOthers) (SpansTraced (Spans C)) (IsTracedAccess (IsAccessOver C H)) (λ t. t.inner.world) (λ t. T t.inner) (WritesExplained (IsAccessOver C H) (λ j. j.world)) (codes "\n") n w first ended left bytes old new
+explains_so C H T first ended left bytes old new m n v w same also serves =
+    subst (λ (k : ℕ). Serves (SpansTraced (Lives C)) (SpansTraced ShowsOthers) (SpansTraced (Spans C)) (IsTracedAccess (IsAccessOver C H)) (λ t. t.inner.world) (λ t. T t.inner) (WritesExplained (IsAccessOver C H) (λ j. j.world)) (codes "\n") k w first ended left bytes old new) same (subst (λ (x : WrongLines). Serves (SpansTraced (Lives C)) (SpansTraced ShowsOthers) (SpansTraced (Spans C)) (IsTracedAccess (IsAccessOver C H)) (λ t. t.inner.world) (λ t. T t.inner) (WritesExplained (IsAccessOver C H) (λ j. j.world)) (codes "\n") m x first ended left bytes old new) also serves)
+
+pub returns-then-not-run : goal.returns-then-not-run
+returns-then-not-run g c = λ bytes known.
+    let answerer = c.in_ok-answerer.answerer in
+    plain c.if-not-run.true (record {
+      journal = c.in_ok-journal.journal;
+      started = c.in_ok-journal.ensures.ok;
+      first = own_state answerer.session;
+      cleaned = c.in_ok-answerer.ensures.shows;
+      served = c.serve-served.result.0;
+      left = c.serve-served.result.1;
+      settles = c.settle_end.ensures;
+      serves = serves_so g.L.Log.contents g.L.Log.held (trouble_at g.L.Refusing.refused) (own_state answerer.session) c.serve-served.result.0 c.serve-served.result.1 bytes
+          (g.W.Write.contents c.args.output.now) (g.W.Write.contents c.serve-served.new.output) _ _ _ _ c.in_ok-answerer.ensures.node c.wrong_lines_of-wrong_lines.ensures (c.serve-served.ensures bytes known);
+    })
+
+pub returns : goal.returns
+returns g c = λ bytes known.
+    let answerer = c.in_ok-answerer-2.answerer in
+    explained c.if-not-run.false (record {
+      journal = c.in_ok-journal.journal;
+      started = c.in_ok-journal.ensures.ok;
+      first = own_state answerer.session;
+      cleaned = subst (λ (t : TracedState (JournalState g.row.L.Denot)). SpansSession (SpansTraced ShowsOthers) (fresh_session t) (own_state answerer.session)) c.in-Ok.ensures c.in_ok-answerer-2.ensures.shows;
+      served = c.serve-served-2.result.0;
+      left = c.serve-served-2.result.1;
+      settles = c.settle_end-2.ensures;
+      serves = explains_so g.L.Log.contents g.L.Log.held (trouble_at g.L.Refusing.refused) (own_state answerer.session) c.serve-served-2.result.0 c.serve-served-2.result.1 bytes
+          (g.W.Write.contents c.args.output.now) (g.W.Write.contents c.serve-served-2.new.output) _ _ _ _ c.in_ok-answerer-2.ensures.node c.wrong_lines_of-wrong_lines.ensures (c.serve-served-2.ensures bytes known);
+    })

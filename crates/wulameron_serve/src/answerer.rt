@@ -1,0 +1,350 @@
+//! What answers the lines of one node over a storage that processes share.
+
+ghost use Rattle.std.specs.Prelude.{◌≡◌, ◌-◌, ℕ, List, IfErr, IfOk, IfSome, OnOk, codes, string_bytes, true};
+ghost use Rattle.iceoryx2_world.specs.Across.{Agrees};
+ghost use Rattle.iceoryx2_commands.specs.declared.command.Command as declared-command;
+ghost use Rattle.iceoryx2_commands.specs.declared.command.Command.TheVariants as command;
+ghost use Rattle.iceoryx2_commands.specs.declared.command.Reply as declared-reply;
+ghost use Rattle.iceoryx2_session.specs.CommandWords.{AppliesHeld, ClosesHeld, SpansSession, SpansTraced};
+ghost use Rattle.iceoryx2_session.specs.Sessions.{AppliesBy, SessionOver};
+ghost use Rattle.iceoryx2_session.specs.SessionStates.{own_state};
+ghost use Rattle.iceoryx2_session.specs.StandingSlots.{IsOfOwn};
+ghost use Rattle.iceoryx2_testing.specs.Trace.{IsTracedAccess};
+ghost use Rattle.explain_serve.specs.Explained.{MayHaveReason, refusal_of};
+ghost use Rattle.explain_serve.specs.Traces.{TracedOver};
+ghost use Rattle.negotiate_lines.specs.declared.line.Line.TheVariants as parsed;
+ghost use Rattle.negotiate_lines.specs.Lines.{IsLine};
+ghost use Rattle.negotiate_serve.specs.Replies.{GrowsBy};
+ghost use Rattle.negotiate_serve.specs.Transcripts.{slot_named};
+ghost use Rattle.wulameron_place.specs.Halts.{is_of_start};
+ghost use Rattle.wulameron_serve.specs.Lines.{IsUsable};
+ghost use Rattle.wulameron_serve.specs.Shared.{AnswersFor, AnswersWith, BeginsAsAnswered, GivesBack, Replies};
+ghost use Rattle.wulameron_serve.specs.Shared.{StandsFor, fresh_session, not_ours};
+ghost use Rattle.wulameron_serve.specs.Views.{WritesExplained};
+
+use crate::dead::{clean_dead, is_blocked};
+use crate::view::Viewed;
+use iceoryx2_commands::command::{Call, Command, Reply};
+use iceoryx2_description::config::Config;
+use iceoryx2_session::session::Session;
+use iceoryx2_session::world_storage::WorldStorage;
+use negotiate_lines::line::{self, Line};
+use negotiate_serve::answerer::{Answerer, slot_of};
+use std::alloc::{AllocError, Global};
+use std::io::Write;
+use wulameron_place::dead::DeadNodes;
+use wulameron_place::halt::Halt;
+use wulameron_place::reports::Reports;
+use wulameron_place::trouble::{Trouble, Troubled};
+
+/// Writes that a line names another node. `AllocError` where there is no memory for the text.
+fn refuse_node(node: u64, text: &mut String) -> Result<(), AllocError>
+    ensures { OnOk result (GrowsBy (λ output. output ≡ not_ours node) (string_bytes text.old) (string_bytes text.new)) }
+{
+    writeln!(text, "node {node} is not this program's")
+}
+
+/// What a command came to.
+#[derive(Drop)]
+struct Carried {
+    reply: Reply,
+    /// The slot that it names.
+    slot: usize,
+    /// How many accesses it made, where they are counted.
+    made: u64,
+}
+
+/// A session, the node in whose name its lines are, and who finds nodes that are dead. It has to be spent by `finish`.
+pub struct NodeAnswerer<S, D> {
+    node: u64,
+    session: Session<S>,
+    dead: D,
+    /// Whether the log has refused something, so that a command may have left something that no slot holds.
+    may_owe: bool,
+}
+
+impl<S: Viewed + Troubled, D: DeadNodes + Drop> NodeAnswerer<S, D> {
+    /// A session over a storage of which the node is an own one. All its slots are free.
+    pub fn new(node: u64, storage: S, dead: D) -> NodeAnswerer<S, D>
+        ensures node { result.node ≡ node }
+        ensures session { own_state result.session ≡ fresh_session storage }
+        ensures stands { Agrees (S.world storage) → S.own storage node ≡ true → S.ready storage
+            → StandsFor S.world S.own S.ready node (own_state result.session) }
+    {
+        NodeAnswerer {
+            node,
+            session: Session::over(Config::default(), storage),
+            dead,
+            may_owe: false,
+        }
+    }
+
+    /// The same for a session that has done something already.
+    pub fn over(node: u64, session: Session<S>, dead: D) -> NodeAnswerer<S, D>
+        ensures node { result.node ≡ node }
+        ensures session { result.session ≡ session }
+    {
+        let may_owe = session.storage().trouble().is_some();
+        NodeAnswerer {
+            node,
+            session,
+            dead,
+            may_owe,
+        }
+    }
+
+    /// Its session, and who finds nodes that are dead.
+    pub fn into_parts(self) -> (Session<S>, D)
+        ensures { result.0 ≡ self.session }
+    {
+        let NodeAnswerer {
+            node: _,
+            session,
+            dead,
+            may_owe: _,
+        } = self;
+        (session, dead)
+    }
+
+    /// Gives back what dead nodes have. True where anything was given back.
+    pub fn clean(&mut self, alloc: Global) -> bool
+        ensures node { self.new.node ≡ self.old.node }
+        ensures shows { SpansSession S.shows (own_state self.old.session) (own_state self.new.session) }
+        ensures stands { StandsFor S.world S.own S.ready self.old.node (own_state self.old.session)
+            → StandsFor S.world S.own S.ready self.old.node (own_state self.new.session) }
+    {
+        clean_dead(alloc, &mut self.session, &self.dead)
+    }
+
+    /// The storage, for its readers.
+    pub fn storage(&self) -> &S
+        ensures { result.now ≡ (own_state self.now.session).table }
+    {
+        self.session.storage()
+    }
+
+    /// Gives back what the node has besides the factories of the slots, where a command may have left something.
+    fn settle(&mut self)
+        ensures node { self.new.node ≡ self.old.node }
+        ensures gives { GivesBack S.settles (own_state self.old.session) (own_state self.new.session) }
+        ensures stands { StandsFor S.world S.own S.ready self.old.node (own_state self.old.session)
+            → StandsFor S.world S.own S.ready self.old.node (own_state self.new.session) }
+    {
+        if !self.may_owe {
+            return;
+        }
+        self.may_owe = self.session.settle(self.node).is_err();
+    }
+
+    /// Closes all that is open, and gives the storage back.
+    pub fn finish(self) -> S
+        ensures closes { ClosesHeld S.spans S.step (own_state self.session).table (own_state self.session).slots result }
+        ensures agrees { StandsFor S.world S.own S.ready self.node (own_state self.session)
+            → Agrees (S.world result) }
+    {
+        let NodeAnswerer {
+            node: _,
+            session,
+            dead: _,
+            may_owe: _,
+        } = self;
+        session.close_all_held()
+    }
+
+    /// Carries a command out, and counts the accesses that it makes.
+    fn carry_out(&mut self, command: Command) -> Carried
+        ensures node { self.new.node ≡ self.old.node }
+        ensures slot { result.slot ≡ slot_named command }
+        ensures held { (is : AppliesHeld S.spans S.step S.world (own_state self.old.session) command result.reply
+            (own_state self.new.session)) × (result.made ≡ S.counted is.last.table - S.counted is.first.table) }
+        ensures stands { StandsFor S.world S.own S.ready self.old.node (own_state self.old.session)
+            → IsOfOwn (S.own (own_state self.old.session).table) (own_state self.old.session).config command
+            → StandsFor S.world S.own S.ready self.old.node (own_state self.new.session) }
+    {
+        let slot = slot_of(&command);
+        let before = self.storage().counted();
+        let reply = self.session.carry_out_held(command);
+        self.may_owe = self.may_owe || self.storage().trouble().is_some();
+        let made = self.storage().counted().saturating_sub(before);
+        Carried { reply, slot, made }
+    }
+
+    /// Writes the reply to a line's command.
+    fn write(&self, line: &[u8], carried: &Carried, text: &mut String) -> Result<(), AllocError>
+        requires { MayHaveReason line.now (refusal_of carried.now.reply) }
+        ensures { (c : declared-command.Command) (first last : SessionOver S) → carried.now.slot ≡ slot_named c
+            → S.ready first.table → AppliesBy S.step S.world first c carried.now.reply last
+            → carried.now.made ≡ S.counted last.table - S.counted first.table
+            → OnOk result (GrowsBy
+            (S.writes line.now c carried.now.reply first last (own_state self.now.session).table)
+            (string_bytes text.old) (string_bytes text.new)) }
+    {
+        self.storage()
+            .write_reply(line, carried.slot, &carried.reply, carried.made, text)
+    }
+
+    /// Carries a line's command out, and writes the reply.
+    fn reply(&mut self, line: &[u8], command: Command, text: &mut String) -> Result<(), AllocError>
+        requires { IsLine line.now (parsed.Command command) }
+        ensures node { self.new.node ≡ self.old.node }
+        ensures answered { S.ready (own_state self.old.session).table
+            → OnOk result (GrowsBy (λ output. (answer : declared-reply.Reply) × Replies S.spans S.step S.world S.writes
+            line.now (own_state self.old.session) command answer output (own_state self.new.session))
+            (string_bytes text.old) (string_bytes text.new)) }
+        ensures stands { StandsFor S.world S.own S.ready self.old.node (own_state self.old.session)
+            → IsOfOwn (S.own (own_state self.old.session).table) (own_state self.old.session).config command
+            → StandsFor S.world S.own S.ready self.old.node (own_state self.new.session) }
+    {
+        let carried = self.carry_out(command);
+        self.write(line, &carried, text)
+    }
+
+    /// Answers a call, unless it is in the name of another node. Where a dead node may be why it is refused, what dead
+    /// nodes have is given back, and then it is made once more.
+    fn call(&mut self, line: &[u8], call: Call, text: &mut String) -> Result<(), AllocError>
+        requires { IsLine line.now (parsed.Command (command.Call call)) }
+        ensures node { self.new.node ≡ self.old.node }
+        ensures answered { StandsFor S.world S.own S.ready self.old.node (own_state self.old.session)
+            → OnOk result (GrowsBy (λ output. AnswersFor S.shows S.spans S.step S.world S.writes self.old.node line.now
+            (own_state self.old.session) (command.Call call) output (own_state self.new.session))
+            (string_bytes text.old) (string_bytes text.new)) }
+        ensures stands { StandsFor S.world S.own S.ready self.old.node (own_state self.old.session)
+            → StandsFor S.world S.own S.ready self.old.node (own_state self.new.session) }
+    {
+        let node = call.node;
+        if node != self.node {
+            return refuse_node(node, text);
+        }
+        let carried = self.carry_out(Command::Call(call));
+        if !is_blocked(&carried.reply) {
+            return self.write(line, &carried, text);
+        }
+        let alloc = *text.allocator();
+        if !self.clean(alloc) {
+            return self.write(line, &carried, text);
+        }
+        match call_of(alloc, line, node) {
+            None => self.write(line, &carried, text),
+            Some(call) => self.reply(line, Command::Call(call), text),
+        }
+    }
+
+    /// Shows what others have done up to now. The log isn't held meanwhile, so that a call has little to read while it
+    /// holds the log.
+    fn look(&mut self)
+        ensures node { self.new.node ≡ self.old.node }
+        ensures shows { SpansSession S.shows (own_state self.old.session) (own_state self.new.session) }
+        ensures stands { StandsFor S.world S.own S.ready self.old.node (own_state self.old.session)
+            → StandsFor S.world S.own S.ready self.old.node (own_state self.new.session) }
+    {
+        self.session.refresh();
+    }
+
+    /// Answers a command, without what stands behind each answer.
+    fn answer_alone(
+        &mut self,
+        line: &[u8],
+        command: Command,
+        text: &mut String,
+    ) -> Result<(), AllocError>
+        requires { IsLine line.now (parsed.Command command) }
+        ensures node { self.new.node ≡ self.old.node }
+        ensures answered { StandsFor S.world S.own S.ready self.old.node (own_state self.old.session)
+            → OnOk result (GrowsBy (λ output. AnswersFor S.shows S.spans S.step S.world S.writes self.old.node line.now
+            (own_state self.old.session) command output (own_state self.new.session))
+            (string_bytes text.old) (string_bytes text.new)) }
+        ensures stands { StandsFor S.world S.own S.ready self.old.node (own_state self.old.session)
+            → StandsFor S.world S.own S.ready self.old.node (own_state self.new.session) }
+    {
+        match command {
+            Command::Call(call) => self.call(line, call, text),
+            Command::Close { slot } => self.reply(line, Command::Close { slot }, text),
+            Command::List => self.reply(line, Command::List, text),
+        }
+    }
+}
+
+impl<S: Viewed + Troubled + Drop, D: DeadNodes + Drop> NodeAnswerer<S, D> {
+    /// A session over a storage of which the node is an own one, after what dead nodes have was given back. What goes
+    /// wrong at the log is told.
+    ///
+    /// `Halt` where the log can't be used any more.
+    pub fn cleaned<E: Write>(
+        node: u64,
+        storage: S,
+        dead: D,
+        reports: &mut Reports<'_, E>,
+    ) -> Result<NodeAnswerer<S, D>, Halt>
+        requires agrees { Agrees (S.world storage) }
+        requires of_own { S.own storage node ≡ true }
+        requires ready { S.ready storage }
+        ensures node { IfOk result (λ answerer. answerer.node ≡ node) }
+        ensures shows { IfOk result (λ answerer. SpansSession S.shows (fresh_session storage) (own_state answerer.session)) }
+        ensures stands { IfOk result (λ answerer. StandsFor S.world S.own S.ready node (own_state answerer.session)) }
+        ensures usable { IfOk result (λ answerer. IsUsable (S.trouble (own_state answerer.session).table)) }
+        ensures err { IfErr result (λ halt. is_of_start halt ≡ true) }
+    {
+        let mut answerer = NodeAnswerer::new(node, storage, dead);
+        let _ = answerer.clean(reports.alloc());
+        match reports.look(&answerer) {
+            None => Ok(answerer),
+            Some(trouble) => {
+                drop(answerer.finish());
+                Err(Halt::Log(trouble))
+            }
+        }
+    }
+}
+
+/// The call of a line, where it is one in the name of this node and there is memory for it.
+pub fn call_of(alloc: Global, line: &[u8], node: u64) -> Option<Call>
+    ensures { IfSome result (λ call. IsLine line.now (parsed.Command (command.Call call)) × (call.node ≡ node)) }
+{
+    match line::parse(alloc, line) {
+        Ok(Line::Command(Command::Call(call))) => {
+            if call.node == node {
+                return Some(call);
+            }
+            None
+        }
+        _ => None,
+    }
+}
+
+/// What the node owes of earlier commands is given back first, and what others did is shown. A call in the name of
+/// another node changes nothing.
+impl<S: Viewed + Troubled, D: DeadNodes + Drop> Answerer for NodeAnswerer<S, D> {
+    ghost answers = { λ old line c text new. (new.node ≡ old.node) × AnswersWith S.settles S.shows S.spans S.step S.world
+        S.writes old.node line S.ending (own_state old.session) c text (own_state new.session) };
+
+    ghost stands = { λ s. StandsFor S.world S.own S.ready s.node (own_state s.session) };
+
+    fn answer(
+        &mut self,
+        line: &[u8],
+        command: Command,
+        text: &mut String,
+    ) -> Result<(), AllocError> {
+        self.settle();
+        self.look();
+        self.answer_alone(line, command, text)?;
+        text.push_str(S::ending())
+    }
+}
+
+impl<S: Viewed + Troubled, D: DeadNodes + Drop> Troubled for NodeAnswerer<S, D> {
+    ghost trouble = { λ answerer. S.trouble (own_state answerer.session).table };
+
+    fn trouble(&self) -> Option<Trouble> {
+        self.storage().trouble()
+    }
+}
+
+/// What is true of each answer that is explained.
+pub fn explanations<S: WorldStorage>()
+    // It begins with what is written without explanations, over the storage inside.
+    ensures { (node : ℕ) (line : List ℕ) (old new : TracedOver S) (c : declared-command.Command) (text : List ℕ)
+        → AnswersWith (SpansTraced S.settles) (SpansTraced S.shows) (SpansTraced S.spans) (IsTracedAccess S.step) (λ traced. S.world traced.inner)
+        (WritesExplained S.step S.world) node line (codes "\n") old c text new
+        → BeginsAsAnswered S.settles S.shows S.spans S.step S.world node line old c text new }
+{}
