@@ -1,5 +1,5 @@
 -- What is shown of entries, put together.
-use Rattle.std.proofs.Common.{◌≡◌, ◌≤◌, ℕ, List, [], ◌++◌, Option, Some, None, Result, Ok, Err, length, drop, refl, sym, ap, subst, ◌∙◌, append_assoc, append-nil}
+use Rattle.std.proofs.Common.{◌≡◌, ◌≤◌, ℕ, List, [], ◌++◌, Option, Some, None, Result, Ok, Err, ControlFlow, Continue, Break, length, drop, refl, sym, ap, subst, ◌∙◌, append_assoc, append-nil}
 use Rattle.std.specs.Io.KnownBytes.{Appends, Keeps}
 use Rattle.std.proofs.KnownBytes.{Appends-nil, Appends-trans, Keeps-refl}
 use Rattle.std.proofs.lemmas.List.{drop_at, drop-append-le}
@@ -196,12 +196,12 @@ module _ {P : Type 0} (Shows : P → Entry → List ℕ → P → Type 0) where
 
   -- ---- a turn
 
-  pub turn_goes_on : (bytes : List ℕ) (p q r : P) (ahead more : List ℕ) (left next before mid after : Option (List ℕ)) (t : Option Rest) → (a : SoFar bytes p q ahead left before mid)
-      → t ≡ None → ShowsNext Shows a.remaining q r (Ok t) more next mid after → SoFar bytes p r more next before after
-  turn_goes_on bytes p q r ahead more left next before mid after t a is turn =
-      one_more bytes p q r ahead more left next before mid after a (subst (λ (x : Option Rest). ShowsNext Shows a.remaining q r (Ok x) more next mid after) is turn)
+  pub turn_goes_on : (bytes : List ℕ) (p q r : P) (ahead more : List ℕ) (left next before mid after : Option (List ℕ)) (t : ControlFlow Rest ℕ) (n : ℕ) → (a : SoFar bytes p q ahead left before mid)
+      → t ≡ Continue n → ShowsNext Shows a.remaining q r (Ok t) more next mid after → SoFar bytes p r more next before after
+  turn_goes_on bytes p q r ahead more left next before mid after t n a is turn =
+      one_more bytes p q r ahead more left next before mid after a (subst (λ (x : ControlFlow Rest ℕ). ShowsNext Shows a.remaining q r (Ok x) more next mid after) is turn)
 
-  pub turn_ends : (bytes : List ℕ) (p q r : P) (ahead more : List ℕ) (left next before mid after : Option (List ℕ)) (t : Option Rest) (x : Rest) → (a : SoFar bytes p q ahead left before mid)
-      → t ≡ Some x → ShowsNext Shows a.remaining q r (Ok t) more next mid after → ShowsRest Shows bytes p r (Ok x) before after
+  pub turn_ends : (bytes : List ℕ) (p q r : P) (ahead more : List ℕ) (left next before mid after : Option (List ℕ)) (t : ControlFlow Rest ℕ) (x : Rest) → (a : SoFar bytes p q ahead left before mid)
+      → t ≡ Break x → ShowsNext Shows a.remaining q r (Ok t) more next mid after → ShowsRest Shows bytes p r (Ok x) before after
   turn_ends bytes p q r ahead more left next before mid after t x a is turn =
-      it_ends bytes p q r (Ok x) ahead left before mid after a (subst (λ (y : Option Rest). ShowsNext Shows a.remaining q r (Ok y) more next mid after) is turn)
+      it_ends bytes p q r (Ok x) ahead left before mid after a (subst (λ (y : ControlFlow Rest ℕ). ShowsNext Shows a.remaining q r (Ok y) more next mid after) is turn)

@@ -1,5 +1,7 @@
 -- What is shown of entries, one after the other.
-use Rattle.std.specs.Prelude.{◌≡◌, ℕ, List, [], ◌++◌, Option, Some, None, Result, Ok, Err}
+use Rattle.std.specs.Prelude.{◌≡◌, ℕ, List, [], ◌++◌, Option, Result, Ok, Err}
+use Rattle.std.specs.declared.ops.ControlFlow.{ControlFlow}
+use Rattle.std.specs.declared.ops.ControlFlow.TheVariants.{Continue, Break}
 use Rattle.std.specs.Io.KnownBytes.{Appends, Keeps}
 use Rattle.iceoryx2_log.specs.declared.entry.Deed.TheVariants.{Moved as Mark}
 use Rattle.iceoryx2_log.specs.declared.entry.Entry.{Entry}
@@ -78,8 +80,8 @@ module _ {P : Type 0} (Shows : P → Entry → List ℕ → P → Type 0) where
     pub unread : IsUnread ahead left rest
 
   -- The next entry is shown, or that is the end.
-  abbrev pub ShowsNext : List ℕ → (old new : P) → Result (Option Rest) Stop → List ℕ → Option (List ℕ)
+  abbrev pub ShowsNext : List ℕ → (old new : P) → Result (ControlFlow Rest ℕ) Stop → List ℕ → Option (List ℕ)
       → (before after : Option (List ℕ)) → Type 0
-  ShowsNext bytes old new (Ok None) ahead left before after = GoesOn bytes old new ahead left before after
-  ShowsNext bytes old new (Ok (Some r)) ahead left before after = ShowsRest bytes old new (Ok r) before after
+  ShowsNext bytes old new (Ok (Continue count)) ahead left before after = GoesOn bytes old new ahead left before after
+  ShowsNext bytes old new (Ok (Break r)) ahead left before after = ShowsRest bytes old new (Ok r) before after
   ShowsNext bytes old new (Err s) ahead left before after = ShowsRest bytes old new (Err s) before after

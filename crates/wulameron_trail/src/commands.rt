@@ -14,15 +14,14 @@ use crate::verdicts::verdict_text;
 use iceoryx2_file_log::error::{FileFault, system_fault};
 use negotiate_serve::ending::{DONE, FAULT, ServeError};
 use negotiate_serve::output::write_out;
-use negotiate_serve::report::report_failure;
 use std::alloc::Global;
 use std::fmt;
 use std::fs::File;
 use std::io::{Read, Write};
 use std::rt::Files;
 use wulameron_arguments::asked::{LogLook, Look, Place};
-use wulameron_trouble::trouble::{Trouble, report_trouble, report_wrong};
-use wulameron_view::viewing::report_unopened;
+use wulameron_place::reports::Reports;
+use wulameron_place::trouble::Trouble;
 
 /// The status where a log isn't sound.
 pub const NOT_SOUND: u8 = 1;
@@ -37,13 +36,13 @@ pub fn log<F: Files<File = File> + AllocGlobal, I: Pauses, W: Write, E: Write>(
     output: &mut W,
     errors: &mut E,
 ) -> u8 {
-    let alloc = rt.alloc();
+    let mut reports = Reports::new(rt.alloc(), asked.place.at, errors);
     match LogFile::open(rt, asked.place.at) {
         Ok(mut log) => {
             let ended = print_log(rt, asked, &mut log, pauses, output);
-            report_end(alloc, asked.place.at, log.at(), ended, errors)
+            report_end(log.at(), ended, &mut reports)
         }
-        Err(fault) => report_refused(alloc, asked.place.at, fault, errors),
+        Err(fault) => report_refused(fault, &mut reports),
     }
 }
 
@@ -88,13 +87,13 @@ pub fn watch<F: Files<File = File> + AllocGlobal, I: Pauses, W: Write, E: Write>
     output: &mut W,
     errors: &mut E,
 ) -> u8 {
-    let alloc = rt.alloc();
+    let mut reports = Reports::new(rt.alloc(), asked.place.at, errors);
     match LogFile::open(rt, asked.place.at) {
         Ok(mut log) => {
             let ended = print_changes(rt, asked, &mut log, pauses, output);
-            report_end(alloc, asked.place.at, log.at(), ended, errors)
+            report_end(log.at(), ended, &mut reports)
         }
-        Err(fault) => report_refused(alloc, asked.place.at, fault, errors),
+        Err(fault) => report_refused(fault, &mut reports),
     }
 }
 
@@ -121,15 +120,13 @@ pub fn check<F: Files<File = File> + AllocGlobal, W: Write, E: Write>(
     errors: &mut E,
 ) -> u8 {
     let alloc = rt.alloc();
+    let mut reports = Reports::new(alloc, place.at, errors);
     match read_whole(rt, place.at) {
         Ok(bytes) => match print_verdict(alloc, &bytes, output) {
             Ok(status) => status,
-            Err(fault) => {
-                let _ = report_failure("wulameron", fault, errors);
-                FAULT
-            }
+            Err(fault) => reports.fail(fault),
         },
-        Err(fault) => report_refused(alloc, place.at, fault, errors),
+        Err(fault) => report_refused(fault, &mut reports),
     }
 }
 
@@ -207,40 +204,26 @@ impl fmt::Display for NotAnswered {
     }
 }
 
-/// Writes the line of what stopped a command over the log of this path, where the next entry begins at this byte, and
-/// gives the status.
-fn report_end<E: Write>(
-    alloc: Global,
-    path: &str,
-    at: u64,
-    ended: Result<(), Stop>,
-    errors: &mut E,
-) -> u8
+/// Writes the line of what stopped a command at the entry that begins at this byte, and gives the status.
+fn report_end<E: Write>(at: u64, ended: Result<(), Stop>, reports: &mut Reports<'_, E>) -> u8
     ensures { result ≡ status_of ended }
 {
-    match ended {
-        Ok(()) => DONE,
-        Err(stop) => {
-            let _ = match stop {
-                Stop::Damaged => {
-                    let trouble = Trouble::Refused(FileFault::Damaged { at });
-                    report_trouble(alloc, path, trouble, errors)
-                }
-                Stop::NotAnswered => report_wrong(alloc, path, NotAnswered { at }, errors),
-                Stop::Refused(fault) => {
-                    report_trouble(alloc, path, Trouble::Refused(fault), errors)
-                }
-                Stop::Failed(fault) => report_failure("wulameron", fault, errors),
-            };
-            FAULT
-        }
-    }
+    let Err(stop) = ended else {
+        return DONE;
+    };
+    let _ = match stop {
+        Stop::Damaged => reports.tell(Trouble::Refused(FileFault::Damaged { at })),
+        Stop::NotAnswered => reports.tell(NotAnswered { at }),
+        Stop::Refused(fault) => reports.tell(Trouble::Refused(fault)),
+        Stop::Failed(fault) => reports.tell_failure(fault),
+    };
+    FAULT
 }
 
 /// Writes why a log's file refused, and gives the status.
-fn report_refused<E: Write>(alloc: Global, path: &str, fault: FileFault, errors: &mut E) -> u8
+fn report_refused<E: Write>(fault: FileFault, reports: &mut Reports<'_, E>) -> u8
     ensures { result ≡ 3 }
 {
-    let _ = report_unopened(alloc, path, fault, errors);
+    let _ = reports.tell_unopened(fault);
     FAULT
 }

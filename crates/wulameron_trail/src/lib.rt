@@ -1,6 +1,7 @@
 //! What `wulameron log`, `watch` and `check` print: a log's entries, what they change, and what is wrong with a log.
 //!
-//! `entries::entry_line`, `changes::change_text`, `changes::change_json` are exactly their definitions; `change_of` is what an entry changes of a service, and at most one thing (`IsChangeOf`).
+//! `entries::entry_line`, `changes::change_text`, `changes::change_json` are exactly their definitions; `change_of` is
+//! what an entry changes of a service, and at most one thing (`IsChangeOf`).
 //! `printing::show_rest`, over any reader whose bytes are known: an output gets exactly what is shown of the
 //! entries there, in order, up to a torn end, a mark, damage, or an entry that isn't followed; if the output or
 //! memory fails, a front of that (`ShowsRest`).

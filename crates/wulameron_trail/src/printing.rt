@@ -15,6 +15,7 @@ use iceoryx2_log::entry::Entry;
 use negotiate_serve::output::write_out;
 use std::alloc::Global;
 use std::io::{Read, Write};
+use std::ops::ControlFlow;
 
 /// What is left of a log's bytes where its entries were shown.
 #[derive(Debug, Drop)]
@@ -57,54 +58,50 @@ pub(crate) fn show_entry<P: Shows, W: Write>(
     }
 }
 
-/// Shows the entry of so many bytes with which begins what was read ahead, unless it is a mark: that ends it.
+/// Shows the entry of so many bytes with which begins what was read ahead, and gives their number, unless it is a mark:
+/// that ends it.
 fn show_found<P: Shows, W: Write>(
     entry: Entry,
     count: usize,
     ahead: &mut Ahead,
     shown: &mut P,
-    at: &mut u64,
     text: &mut String,
     output: &mut W,
-) -> Result<Option<Rest>, Stop>
+) -> Result<ControlFlow<Rest, usize>, Stop>
     requires { count ≤ length ahead.old }
     ensures { (left : Option (List ℕ)) (bytes : List ℕ) → IsUnread ahead.old left bytes → Begins bytes entry count
         → ShowsNext P.shows bytes shown.old shown.new result ahead.new left
         (W.contents output.old) (W.contents output.new) }
 {
     if is_mark(&entry.deed) {
-        return Ok(Some(Rest::Moved(entry)));
+        return Ok(ControlFlow::Break(Rest::Moved(entry)));
     }
     match show_entry(&entry, shown, text, output) {
         Ok(()) => {
             ahead.take(count);
-            *at = at.saturating_add(count as u64);
-            Ok(None)
+            Ok(ControlFlow::Continue(count))
         }
         Err(stop) => Err(stop),
     }
 }
 
-/// Shows the next entry, unless that is a mark or there is none: these end it.
+/// Shows the next entry, and gives how many bytes it has, unless it is a mark or there is none: these end it.
 fn show_next<R: Read, P: Shows, W: Write>(
     alloc: Global,
     reader: &mut R,
     ahead: &mut Ahead,
     shown: &mut P,
-    at: &mut u64,
     text: &mut String,
     output: &mut W,
-) -> Result<Option<Rest>, Stop>
+) -> Result<ControlFlow<Rest, usize>, Stop>
     ensures { (bytes : List ℕ) → IsUnread ahead.old (R.remaining reader.old) bytes
         → ShowsNext P.shows bytes shown.old shown.new result ahead.new (R.remaining reader.new)
         (W.contents output.old) (W.contents output.new) }
 {
     match next_front(alloc, reader, ahead) {
         Ok(front) => match front {
-            Front::Whole { entry, count } => {
-                show_found(entry, count, ahead, shown, at, text, output)
-            }
-            Front::Torn => Ok(Some(Rest::Ended)),
+            Front::Whole { entry, count } => show_found(entry, count, ahead, shown, text, output),
+            Front::Torn => Ok(ControlFlow::Break(Rest::Ended)),
             Front::Unfinished | Front::Damaged => Err(Stop::Damaged),
         },
         Err(stop) => Err(stop),
@@ -129,10 +126,10 @@ pub fn show_rest<R: Read, P: Shows, W: Write>(
     let mut ahead = Ahead::new(alloc);
     let mut text = String::new(alloc);
     for _ in 0..u64::MAX {
-        match show_next(alloc, reader, &mut ahead, shown, at, &mut text, output) {
+        match show_next(alloc, reader, &mut ahead, shown, &mut text, output) {
             Ok(turn) => match turn {
-                None => {}
-                Some(rest) => return Ok(rest),
+                ControlFlow::Continue(count) => *at = at.saturating_add(count as u64),
+                ControlFlow::Break(rest) => return Ok(rest),
             },
             Err(stop) => return Err(stop),
         }

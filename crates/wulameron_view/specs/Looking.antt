@@ -4,7 +4,8 @@ use Rattle.std.specs.Prelude.{bytes_eq, nat_eq}
 use Rattle.std.specs.List.{filter}
 use Rattle.iceoryx2_description.specs.declared.description.MessagingPattern.{MessagingPattern}
 use Rattle.iceoryx2_description.specs.declared.description.MessagingPattern.TheVariants as pattern
-use Rattle.iceoryx2_journal.specs.Journal.{JournalState, TakesAll, Fails}
+use Rattle.iceoryx2_journal.specs.Journal.{JournalState}
+use Rattle.wulameron_place.specs.Reading.{TakesOver}
 use Rattle.iceoryx2_log.specs.Log.{Contents}
 use Rattle.iceoryx2_monitoring.specs.declared.state.NodeStatus.{NodeStatus}
 use Rattle.iceoryx2_world.specs.World.{World}
@@ -105,9 +106,9 @@ pub data Prints (IsText : List ℕ → Type 0) (IsWhy : LookError → Type 0)
 pub data LooksAt {L : Type 0} (contents : L → Option Contents) (IsText : World → List ℕ → Type 0)
     (IsWhy : World → LookError → Type 0) (old new : JournalState L) (result : Result (Unit {0}) LookError)
     (before after : Option (List ℕ)) : Type 0 where
-  read : TakesAll contents old new → Prints (IsText new.world) (IsWhy new.world) result before after
+  read : TakesOver contents true old new → Prints (IsText new.world) (IsWhy new.world) result before after
       → LooksAt contents IsText IsWhy old new result before after
-  unread : Fails contents true old new → KeepsWhy look.Unread result before after
+  unread : TakesOver contents false old new → KeepsWhy look.Unread result before after
       → LooksAt contents IsText IsWhy old new result before after
 
 -- ---- the status

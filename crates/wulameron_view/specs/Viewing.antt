@@ -1,16 +1,12 @@
 -- How the commands that look at a log end.
 use Rattle.std.specs.Prelude.{◌≡◌, ℕ, Bool, List, Option, Some, None, Result, Ok, Err, codes}
-use Rattle.std.specs.declared.io.ErrorKind.TheVariants as system
-use Rattle.iceoryx2_file_log.specs.declared.error.FileFault.{FileFault}
-use Rattle.iceoryx2_file_log.specs.declared.error.FileFault.TheVariants as file
 use Rattle.iceoryx2_journal.specs.Journal.{JournalState}
 use Rattle.iceoryx2_log.specs.Log.{Contents}
 use Rattle.iceoryx2_monitoring.specs.declared.state.NodeStatus.{NodeStatus}
 use Rattle.iceoryx2_world.specs.World.{World}
 use Rattle.negotiate_serve.specs.declared.ending.ServeError.{ServeError}
-use Rattle.wulameron_trouble.specs.declared.trouble.Trouble.{Trouble}
-use Rattle.wulameron_trouble.specs.declared.trouble.Trouble.TheVariants as trouble
-use Rattle.wulameron_trouble.specs.Troubles.{WritesLine, trouble_text}
+use Rattle.wulameron_place.specs.declared.trouble.Trouble.{Trouble}
+use Rattle.wulameron_place.specs.Troubles.{WritesLine, trouble_text}
 use Rattle.wulameron_view.specs.declared.looking.LookError.{LookError}
 use Rattle.wulameron_view.specs.declared.looking.LookError.TheVariants as look
 use Rattle.wulameron_view.specs.Looking.{LooksAt, look_status}
@@ -31,12 +27,6 @@ look_text None look.Unread = None
 look_text t look.NoService = Some (codes "has no such service; see `wulameron list`")
 look_text t look.SeveralServices = Some (codes "has several services of this name; name one by --pattern")
 look_text t (look.Failed f) = None
-
--- what is written of why a log isn't opened, behind its path
-abbrev pub unopened_text : FileFault → Option (List ℕ)
-unopened_text (file.Failed system.NotFound) =
-    Some (codes "there is no log; name another file, or make it by `wulameron run`")
-unopened_text fault = trouble_text (trouble.Refused fault)
 
 -- ---- nodes
 

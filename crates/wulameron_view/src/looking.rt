@@ -13,7 +13,6 @@ use crate::show_json::show_json;
 use crate::show_text::show_text;
 use iceoryx2_description::description::MessagingPattern;
 use iceoryx2_journal::journal::Journal;
-use iceoryx2_log::log::Log;
 use iceoryx2_monitoring::state::NodeStatus;
 use iceoryx2_table::table::stored::StoredWorld;
 use negotiate_serve::ending::{DONE, FAULT, ServeError};
@@ -21,6 +20,8 @@ use negotiate_serve::output::write_out;
 use std::alloc::{AllocError, Global};
 use std::io::Write;
 use wulameron_arguments::asked::{Pattern, Wanted};
+use wulameron_place::reading::take_over;
+use wulameron_place::trouble::Refusing;
 
 /// The status where what was asked for isn't there, or is refused.
 pub const REFUSED: u8 = 1;
@@ -190,12 +191,12 @@ pub fn print<W: Write>(made: Result<String, LookError>, output: &mut W) -> Resul
 
 // ---- over a journal
 
-/// Takes over all that others appended, and prints which services there are then, as a table or as JSON. Of the nodes
+/// Takes over what others had appended, and prints which services there are then, as a table or as JSON. Of the nodes
 /// these states are known.
 ///
 /// `Unread` where not all can be taken over, and nothing is printed; `Failed` where the output refuses, or there is no
 /// memory.
-pub fn print_list<L: Log, W: Write>(
+pub fn print_list<L: Refusing, W: Write>(
     alloc: Global,
     journal: &mut Journal<L>,
     states: &[NodeStatus],
@@ -205,17 +206,17 @@ pub fn print_list<L: Log, W: Write>(
     ensures { LooksAt L.contents (IsListed is_json states.now) NeverUnshown
         journal.old journal.new result (W.contents output.old) (W.contents output.new) }
 {
-    if !journal.catch_up() {
+    if !take_over(journal) {
         return Err(LookError::Unread);
     }
     print(list_in(alloc, states, journal.world(), is_json), output)
 }
 
-/// Takes over all that others appended, and prints all that is known of the wanted service then, as lines or as JSON.
+/// Takes over what others had appended, and prints all that is known of the wanted service then, as lines or as JSON.
 ///
 /// `Unread` where not all can be taken over, `NoService` and `SeveralServices` where not one is wanted, and nothing is
 /// printed; `Failed` where the output refuses, or there is no memory.
-pub fn print_show<L: Log, W: Write>(
+pub fn print_show<L: Refusing, W: Write>(
     alloc: Global,
     journal: &mut Journal<L>,
     states: &[NodeStatus],
@@ -227,7 +228,7 @@ pub fn print_show<L: Log, W: Write>(
         (λ w why. IsUnshown w wanted.entry why)
         journal.old journal.new result (W.contents output.old) (W.contents output.new) }
 {
-    if !journal.catch_up() {
+    if !take_over(journal) {
         return Err(LookError::Unread);
     }
     print(

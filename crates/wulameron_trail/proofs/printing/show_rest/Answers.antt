@@ -12,15 +12,15 @@ loop-preserved g c = λ bytes is.
     turn_goes_on g.P.Shows.shows bytes c.args.shown.now c.loop.shown c.show_next.new.shown c.loop.ahead c.show_next.new.ahead
     (g.R.Read.remaining c.loop.reader) (g.R.Read.remaining c.show_next.new.reader)
     (g.W.Write.contents c.args.output.now) (g.W.Write.contents c.loop.output) (g.W.Write.contents c.show_next.new.output)
-    c.in-Ok.turn a c.in-None.is (c.in-Ok.ensures a.remaining a.unread)
+    c.in-Ok.turn c.in-Continue.count a c.in-Continue.is (c.in-Ok.ensures a.remaining a.unread)
 
-pub returns-in-Some : goal.returns-in-Some
-returns-in-Some g c = λ bytes is.
+pub returns-in-Break : goal.returns-in-Break
+returns-in-Break g c = λ bytes is.
     let a = c.loop.invariant bytes is in
     turn_ends g.P.Shows.shows bytes c.args.shown.now c.loop.shown c.show_next.new.shown c.loop.ahead c.show_next.new.ahead
     (g.R.Read.remaining c.loop.reader) (g.R.Read.remaining c.show_next.new.reader)
     (g.W.Write.contents c.args.output.now) (g.W.Write.contents c.loop.output) (g.W.Write.contents c.show_next.new.output)
-    c.in-Ok.turn c.in-Some.rest a c.in-Some.is (c.in-Ok.ensures a.remaining a.unread)
+    c.in-Ok.turn c.in-Break.rest a c.in-Break.is (c.in-Ok.ensures a.remaining a.unread)
 
 pub returns-in-Err : goal.returns-in-Err
 returns-in-Err g c = λ bytes is.

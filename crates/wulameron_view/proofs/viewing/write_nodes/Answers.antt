@@ -1,6 +1,6 @@
 use Rattle.std.proofs.Common.{List, ℕ, subst, ◌∙◌}
 use Rattle.negotiate_serve.specs.Outputs.{Writes}
-use Rattle.wulameron_trouble.proofs.WrittenLines.{writes_line}
+use Rattle.wulameron_place.proofs.WrittenLines.{writes_line}
 use Rattle.wulameron_view.specs.Nodes.{nodes_printed}
 use Rattle.wulameron_view.proofs.viewing.write_nodes.Goals as goal
 
