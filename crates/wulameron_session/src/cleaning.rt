@@ -3,19 +3,18 @@
 use crate::log_nodes::SharedNodes;
 use crate::texts::{LOG, NODE_ALIVE, of_monitoring, of_trouble, text_frame};
 use iceoryx2_journal::cleaning::Cleaned;
-use iceoryx2_monitoring::error::MonitoringError;
 use iceoryx2_session::session::Session;
 use iceoryx2_session::world_storage::WorldStorage;
 use iceoryx2_table::table::stored::StoredWorld;
 use std::alloc::Global;
 use wulameron_calls::replies::{DONE, OUT_OF_MEMORY, only, with_code, with_numbers};
-use wulameron_clean::clean::{Found, STAYS, found_by};
-use wulameron_clean::dead::{DeadNodes, NotDead, Unclaimed, dead_of, not_dead};
-use wulameron_clean::rehearsal::rehearse;
-use wulameron_clean::texts::gave_nothing;
 use wulameron_frame::frame::{Frame, Numbers};
+use wulameron_place::clean::{Found, STAYS, Unfound, found_by};
+use wulameron_place::dead::{DeadNodes, NotDead, Unclaimed};
+use wulameron_place::rehearsal::rehearse;
+use wulameron_place::texts::gave_nothing;
+use wulameron_place::trouble::Troubled;
 use wulameron_state::reading::NO_SUCH_ITEM;
-use wulameron_trouble::trouble::Troubled;
 
 /// What was given back, and of how many nodes.
 #[derive(Clone, Copy, Debug, PartialEq, Eq)]
@@ -56,46 +55,6 @@ impl Given {
                 ..only(DONE)
             },
         )
-    }
-}
-
-/// Why there are no nodes to clean up for.
-#[derive(Debug, Drop)]
-enum Unfound {
-    NotDead(NotDead),
-    Failed(MonitoringError),
-    OutOfMemory,
-}
-
-/// The one node, where it is dead.
-fn named_node<N: SharedNodes>(alloc: Global, nodes: &N, node: u64) -> Result<Vec<u64>, Unfound> {
-    match nodes.state_of(node) {
-        Ok(state) => match not_dead(node, state) {
-            None => {
-                let mut found = Vec::new(alloc);
-                match found.push(node) {
-                    Ok(_) => Ok(found),
-                    Err(_) => Err(Unfound::OutOfMemory),
-                }
-            }
-            Some(why) => Err(Unfound::NotDead(why)),
-        },
-        Err(error) => Err(Unfound::Failed(error)),
-    }
-}
-
-/// The dead nodes, or the one that is named where it is dead.
-fn wanted_nodes<N: SharedNodes>(
-    alloc: Global,
-    nodes: &N,
-    named: Option<u64>,
-) -> Result<Vec<u64>, Unfound> {
-    match named {
-        Some(node) => named_node(alloc, nodes, node),
-        None => match nodes.statuses() {
-            Ok(found) => Ok(dead_of(alloc, &found)),
-            Err(error) => Err(Unfound::Failed(error)),
-        },
     }
 }
 
@@ -220,7 +179,7 @@ pub fn clean<S: WorldStorage + Troubled, N: SharedNodes>(
 ) -> Frame {
     let asked = call.numbers;
     let named = if asked.a == 0 { None } else { Some(asked.x) };
-    match wanted_nodes(alloc, nodes, named) {
+    match nodes.wanted(named) {
         Ok(found) => {
             if asked.b != 0 {
                 return rehearse_found(alloc, nodes, &found);

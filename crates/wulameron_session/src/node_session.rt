@@ -9,7 +9,6 @@ use crate::sending::send;
 use crate::texts::{BAD_LINE, done_text_frame, of_last_trouble, of_monitoring, text_frame};
 use iceoryx2_commands::command::{Command, SLOTS};
 use iceoryx2_monitoring::state::{NodeState, NodeStatus};
-use iceoryx2_session::world_storage::WorldStorage;
 use negotiate_lines::line::{self, Line};
 use negotiate_lines::wrong_text::wrong_text;
 use negotiate_serve::answerer::Answerer;
@@ -19,12 +18,13 @@ use wulameron_calls::replies::{
 };
 use wulameron_calls::{agreed, listing, pieces, slots};
 use wulameron_frame::frame::{Frame, Numbers};
+use wulameron_place::trouble::Troubled;
+use wulameron_serve::answerer::NodeAnswerer;
 use wulameron_serve::dead::clean_dead;
-use wulameron_serve::shared::SharedAnswerer;
+use wulameron_serve::view::Viewed;
 use wulameron_state::asking;
 use wulameron_state::reading::NO_SUCH_ITEM;
 use wulameron_state::state::State;
-use wulameron_trouble::trouble::Troubled;
 
 /// A session, the node in whose name its calls are, who finds other nodes, and the last list of these. It has to be spent
 /// by `finish`.
@@ -35,7 +35,7 @@ pub struct NodeSession<S, N> {
     statuses: Vec<NodeStatus>,
 }
 
-impl<S: WorldStorage + Troubled, N: SharedNodes + Drop> NodeSession<S, N> {
+impl<S: Viewed + Troubled, N: SharedNodes + Drop> NodeSession<S, N> {
     /// A session over a storage of which the node is an own one. All its slots are free.
     pub fn new(alloc: Global, node: u64, storage: S, nodes: N) -> NodeSession<S, N> {
         NodeSession {
@@ -245,7 +245,7 @@ impl<S: WorldStorage + Troubled, N: SharedNodes + Drop> NodeSession<S, N> {
             answer,
         } = state;
         let mut text = String::new(alloc);
-        let mut answerer = SharedAnswerer::over(node, session, nodes);
+        let mut answerer = NodeAnswerer::over(node, session, nodes);
         let answered = answerer.answer(line, command, &mut text);
         let (session, nodes) = answerer.into_parts();
         let session = NodeSession {

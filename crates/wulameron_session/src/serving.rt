@@ -2,7 +2,6 @@
 
 use crate::log_nodes::SharedNodes;
 use crate::node_session::NodeSession;
-use iceoryx2_session::world_storage::WorldStorage;
 use negotiate_serve::ending::ServeError;
 use negotiate_serve::output::write_out;
 use std::alloc::Global;
@@ -11,7 +10,8 @@ use wulameron_calls::replies::with_code;
 use wulameron_frame::encoding::{EncodeError, encode};
 use wulameron_frame::frame::Frame;
 use wulameron_frame::reading::{ReadError, read_frame};
-use wulameron_trouble::trouble::Troubled;
+use wulameron_place::trouble::Troubled;
+use wulameron_serve::view::Viewed;
 
 /// The code of a call with a text that is too long.
 const TOO_MANY: u32 = 11;
@@ -69,7 +69,7 @@ fn next_call<R: Read, W: Write>(
 }
 
 /// Answers each call of an input, in order, until it ends.
-pub fn serve<S: WorldStorage + Troubled, N: SharedNodes + Drop, R: Read, W: Write>(
+pub fn serve<S: Viewed + Troubled, N: SharedNodes + Drop, R: Read, W: Write>(
     alloc: Global,
     session: NodeSession<S, N>,
     input: &mut R,

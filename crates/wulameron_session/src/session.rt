@@ -3,25 +3,26 @@
 use crate::log_nodes::{LogNodes, SharedNodes};
 use crate::node_session::NodeSession;
 use crate::serving::{Stop, serve, write_frame};
-use crate::texts::{of_last_trouble, of_monitoring, of_trouble};
+use crate::texts::{of_monitoring, of_trouble};
 use iceoryx2_file_log::file_log::FileLog;
-use iceoryx2_journal::journal::Journal;
 use iceoryx2_log::call_log::{CallLog, SpansCalls};
-use iceoryx2_session::world_storage::WorldStorage;
 use negotiate_serve::ending::{DONE, FAULT};
 use std::alloc::Global;
 use std::fs::File;
-use std::io::{Read, Write};
+use std::io::{self, Read, Write};
 use std::random::RandomSource;
 use std::rt::Files;
 use std::time::Clock;
 use wulameron_arguments::asked::Session;
 use wulameron_calls::replies::{self, OUT_OF_MEMORY, only, with_code, with_numbers};
-use wulameron_clean::dead::NodeFiles;
 use wulameron_frame::frame::{Frame, Numbers, VERSION};
-use wulameron_serve::run::claimed;
-use wulameron_serve::starting::start;
-use wulameron_trouble::trouble::{Refusing, Trouble, Troubled};
+use wulameron_place::dead::NodeFiles;
+use wulameron_place::halt::Halt;
+use wulameron_place::node_log::NodeLog;
+use wulameron_place::opening::claimed;
+use wulameron_place::reports::Reports;
+use wulameron_place::trouble::{Refusing, Trouble, Troubled, last_trouble};
+use wulameron_serve::view::Viewed;
 
 /// Holds a session over the log in a file, which is made where there is none, and answers the calls of the input until it
 /// ends. The node is claimed as long. The first frame that is written answers no call: it tells the node, or what went
@@ -35,8 +36,7 @@ pub fn session<
     W: Write,
 >(rt: F, asked: &Session<'_>, input: R, output: &mut W) -> u8 {
     let alloc = rt.alloc();
-    let place = asked.place;
-    match claimed(&rt, place.at, asked.node, place.options) {
+    match claimed(&rt, asked.place, asked.node) {
         Ok(token) => {
             let status = session_as(&rt, token.node(), asked, input, output);
             drop(token);
@@ -52,7 +52,7 @@ fn refuse<W: Write>(alloc: Global, reply: &Frame, output: &mut W) -> u8 {
     FAULT
 }
 
-/// Does so for a node that is claimed.
+/// Holds the session of a node that is claimed.
 fn session_as<F: Files<File = File> + Clock + RandomSource + AllocGlobal, R: Read + Drop, W: Write>(
     rt: &F,
     node: u64,
@@ -68,7 +68,11 @@ fn session_as<F: Files<File = File> + Clock + RandomSource + AllocGlobal, R: Rea
     match FileLog::open(rt, path, place.options) {
         Ok(log) => {
             let counter = log.header().counter;
-            let log = CallLog::new(log);
+            let node_log = NodeLog {
+                log: CallLog::new(log),
+                counter,
+                node,
+            };
             let nodes = LogNodes {
                 files: NodeFiles {
                     rt,
@@ -78,7 +82,7 @@ fn session_as<F: Files<File = File> + Clock + RandomSource + AllocGlobal, R: Rea
                 },
                 options: place.options,
             };
-            serve_log(alloc, log, counter, node, nodes, input, output)
+            serve_log(alloc, node_log, nodes, input, output)
         }
         Err(error) => {
             let trouble = Trouble::Refused(error.fault());
@@ -87,35 +91,23 @@ fn session_as<F: Files<File = File> + Clock + RandomSource + AllocGlobal, R: Rea
     }
 }
 
-/// Does so over a log whose counter begins so.
+/// Holds the session over a log that is open. Frames tell what goes wrong there, so that no line has to.
 fn serve_log<L: Refusing + SpansCalls + Drop, N: SharedNodes + Drop, R: Read + Drop, W: Write>(
     alloc: Global,
-    log: L,
-    counter: u64,
-    node: u64,
+    node_log: NodeLog<L>,
     nodes: N,
     input: R,
     output: &mut W,
 ) -> u8 {
-    let mut journal = Journal::starting_at(alloc, log, Vec::new(alloc), counter);
-    let started = start(&mut journal, node);
-    if let Some(reply) = of_last_trouble(alloc, &journal) {
-        return refuse(alloc, &reply, output);
-    }
-    match started {
-        Ok(()) => {
+    let node = node_log.node;
+    let mut no_lines = Reports::new(alloc, "", io::sink());
+    match node_log.start(alloc, &mut no_lines) {
+        Ok(journal) => {
             let session = NodeSession::new(alloc, node, journal, nodes);
             serve_all(alloc, session, input, output)
         }
-        Err(_) => refuse(alloc, &unstarted(alloc, journal.trouble()), output),
-    }
-}
-
-/// The reply where a node doesn't start. Where nothing goes wrong at the log there was no memory.
-fn unstarted(alloc: Global, trouble: Option<Trouble>) -> Frame {
-    match trouble {
-        Some(trouble) => of_trouble(alloc, trouble),
-        None => with_code(alloc, OUT_OF_MEMORY),
+        Err(Halt::Log(trouble)) => refuse(alloc, &of_trouble(alloc, trouble), output),
+        Err(_) => refuse(alloc, &with_code(alloc, OUT_OF_MEMORY), output),
     }
 }
 
@@ -132,7 +124,7 @@ fn greeting(alloc: Global, node: u64) -> Frame {
 }
 
 /// Gives back what dead nodes have, greets, answers all calls, and closes what the slots hold.
-fn serve_all<S: WorldStorage + Troubled + Drop, N: SharedNodes + Drop, R: Read + Drop, W: Write>(
+fn serve_all<S: Viewed + Troubled + Drop, N: SharedNodes + Drop, R: Read + Drop, W: Write>(
     alloc: Global,
     session: NodeSession<S, N>,
     input: R,
@@ -159,8 +151,8 @@ fn status_of(served: Result<(), Stop>, is_closed: bool, trouble: Option<Trouble>
     if served.is_err() || !is_closed {
         return FAULT;
     }
-    match trouble {
-        Some(trouble) => if trouble.is_last() { FAULT } else { DONE },
+    match last_trouble(trouble) {
+        Some(_) => FAULT,
         None => DONE,
     }
 }

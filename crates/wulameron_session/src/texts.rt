@@ -6,7 +6,7 @@ use iceoryx2_monitoring::error::{MonitoringError, MonitoringFault};
 use std::alloc::{AllocError, Global};
 use wulameron_calls::replies::{DONE, OUT_OF_MEMORY, only, with_code};
 use wulameron_frame::frame::Frame;
-use wulameron_trouble::trouble::{Trouble, Troubled};
+use wulameron_place::trouble::{Trouble, Troubled, last_trouble};
 
 /// The log or a node's file refused; the text tells which and why.
 pub const LOG: u32 = 26;
@@ -66,13 +66,8 @@ pub fn of_monitoring(alloc: Global, error: &MonitoringError) -> Frame {
 
 /// The reply where the log can't be used any more. `None` where it can.
 pub fn of_last_trouble<S: Troubled>(alloc: Global, watched: &S) -> Option<Frame> {
-    match watched.trouble() {
-        Some(trouble) => {
-            if trouble.is_last() {
-                return Some(of_trouble(alloc, trouble));
-            }
-            None
-        }
+    match last_trouble(watched.trouble()) {
+        Some(trouble) => Some(of_trouble(alloc, trouble)),
         None => None,
     }
 }
