@@ -12,13 +12,13 @@ use std::{env, io};
 use wulameron_arguments::arguments::arguments;
 use wulameron_arguments::asked::Asked;
 use wulameron_arguments::home::{DefaultLog, default_log, make_folder};
-use wulameron_clean::clean::clean;
 use wulameron_hold::hold::hold;
+use wulameron_place::clean::clean;
+use wulameron_place::reports::Reports;
 use wulameron_serve::run::run;
 use wulameron_session::session::session;
 use wulameron_trail::commands::{check, log, watch};
 use wulameron_trail::pauses::Sleeper;
-use wulameron_trouble::trouble::report_wrong;
 use wulameron_view::viewing::{list, nodes, show};
 
 /// Prints what the words asked for, or what is wrong with them, and gives the status.
@@ -50,7 +50,7 @@ fn is_prepared(rt: &HostRuntime, default: Option<&DefaultLog>, asked: &Asked<'_>
     match make_folder(rt, folder) {
         Ok(()) => true,
         Err(error) => {
-            let _ = report_wrong(rt.alloc(), folder, error, &mut rt.stderr());
+            let _ = Reports::new(rt.alloc(), folder, rt.stderr()).tell(error);
             false
         }
     }

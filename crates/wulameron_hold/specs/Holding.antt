@@ -1,5 +1,5 @@
 -- How a call is made, held and given back.
-use Rattle.std.specs.Prelude.{◌≡◌, ℕ, false, List, ◌++◌, Option, Result, Ok, Err, codes, decimal}
+use Rattle.std.specs.Prelude.{◌≡◌, ℕ, Bool, true, false, List, ◌++◌, Option, Result, Ok, Err, codes, decimal}
 use Rattle.std.specs.List.{flat_map}
 use Rattle.iceoryx2_access.specs.Letter.{Letter}
 use Rattle.iceoryx2_commands.specs.declared.command.Call.{Call}
@@ -13,6 +13,7 @@ use Rattle.iceoryx2_session.specs.Sessions.{SessionOver}
 use Rattle.iceoryx2_world.specs.World.{World}
 use Rattle.negotiate_serve.specs.declared.ending.ServeError.{ServeError}
 use Rattle.wulameron_arguments.specs.declared.asked.Hold.{Hold}
+use Rattle.wulameron_hold.specs.declared.holding.Factory.{Factory}
 use Rattle.wulameron_hold.specs.declared.holding.HoldError.{HoldError}
 use Rattle.wulameron_hold.specs.declared.holding.HoldError.TheVariants as hold
 use Rattle.wulameron_view.specs.declared.looking.LookError.{LookError}
@@ -26,8 +27,8 @@ call_line node h =
     ++ flat_map (λ term. codes " " ++ term.now) h.terms.items
 
 -- The reply gave a factory in this slot, of the service of this number; or it is why there is none.
-abbrev pub IsFactoryOf : Reply → Result (ℕ × ℕ) HoldError → Type 0
-IsFactoryOf answer (Ok made) = answer ≡ reply.Opened made.0 made.1
+abbrev pub IsFactoryOf : Reply → Result Factory HoldError → Type 0
+IsFactoryOf answer (Ok made) = answer ≡ reply.Opened made.slot made.number
 IsFactoryOf answer (Err (hold.Refused r)) = answer ≡ reply.Refused r
 IsFactoryOf answer (Err hold.NotMade) = Unit {0}
 IsFactoryOf answer (Err (hold.Unshown why)) = ⊥
@@ -47,6 +48,12 @@ abbrev pub hold_status : Result (Unit {0}) HoldError → ℕ
 hold_status (Ok x) = 0
 hold_status (Err (hold.Refused r)) = 1
 hold_status (Err other) = 3
+
+-- 3 where something of the node stays at last. A factory that wasn't closed at first is given back else.
+abbrev pub end_status : Result (Unit {0}) HoldError → (is_settled : Bool) → ℕ
+end_status held false = 3
+end_status (Err hold.NotClosed) true = 0
+end_status held true = hold_status held
 
 module _ {S : Type 0} (spans : S → S → Type 0) (step : S → Letter → S → Type 0) (world : S → World)
     (states : List NodeStatus) where

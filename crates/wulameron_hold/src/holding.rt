@@ -112,34 +112,48 @@ fn ending(
     }
 }
 
-/// Prints what was agreed of the service of this number, waits for the end of the input, and closes the slot, whatever
-/// came before.
+/// A factory that a call gave.
+#[derive(Clone, Copy)]
+struct Factory {
+    slot: usize,
+    /// The number of its service.
+    number: u64,
+}
+
+/// Prints what was agreed of a factory's service, waits for the end of the input, and closes the slot, whatever came
+/// before.
 fn hold_made<L: SpansCalls, R: Read, W: Write>(
     alloc: Global,
     session: &mut Session<Journal<L>>,
-    slot: usize,
-    number: u64,
+    factory: Factory,
     states: &[NodeStatus],
     input: &mut R,
     output: &mut W,
 ) -> Result<(), HoldError>
-    ensures { HoldsMade (Spans L.contents) (IsAccessOver L.contents L.held) (λ j. j.world) states.now slot number
-        (own_state session.old) (own_state session.new) result (W.contents output.old) (W.contents output.new) }
+    ensures { HoldsMade (Spans L.contents) (IsAccessOver L.contents L.held) (λ j. j.world) states.now factory.slot
+        factory.number (own_state session.old) (own_state session.new) result
+        (W.contents output.old) (W.contents output.new) }
 {
     let world = session.storage().world();
-    let text = show_in(alloc, states, world, Wanted::Numbered(number), false);
+    let text = show_in(
+        alloc,
+        states,
+        world,
+        Wanted::Numbered(factory.number),
+        false,
+    );
     let shown = print(text, output);
     let waited = wait(shown, input);
-    let closed = session.carry_out_held(Command::Close { slot });
+    let closed = session.carry_out_held(Command::Close { slot: factory.slot });
     ending(shown, waited, &closed)
 }
 
-/// The slot of the factory that a call gave, and the number of its service.
-fn factory_of(reply: Reply) -> Result<(usize, u64), HoldError>
+/// The factory that a call gave, or why there is none.
+fn factory_of(reply: Reply) -> Result<Factory, HoldError>
     ensures { IsFactoryOf reply result }
 {
     match reply {
-        Reply::Opened { slot, number } => Ok((slot, number)),
+        Reply::Opened { slot, number } => Ok(Factory { slot, number }),
         Reply::Refused(refusal) => Err(HoldError::Refused(refusal)),
         _ => Err(HoldError::NotMade),
     }
@@ -162,7 +176,7 @@ pub fn hold_call<L: SpansCalls, R: Read, W: Write>(
 {
     let reply = session.carry_out_held(Command::Call(call));
     match factory_of(reply) {
-        Ok((slot, number)) => hold_made(alloc, session, slot, number, states, input, output),
+        Ok(factory) => hold_made(alloc, session, factory, states, input, output),
         Err(why) => Err(why),
     }
 }

@@ -2,7 +2,7 @@
 //!
 //! `holding::hold_call`, over a session of a journal: the call is made by its own grammar; where it gives a factory
 //! exactly what `show` prints of it is written, or a front of that, and the slot is closed afterwards, whatever
-//! came; where it is refused nothing is written (`Holds`, `HoldsMade`). Its status is exact (`hold_status`). That
+//! came; where it is refused nothing is written (`Holds`, `HoldsMade`). Its status is exact (`hold_status`, `end_status`). That
 //! it waits until the input ends is tested.
 #![tactic(auto)]
 

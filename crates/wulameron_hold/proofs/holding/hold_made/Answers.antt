@@ -10,7 +10,7 @@ use Rattle.wulameron_hold.proofs.holding.hold_made.Goals as goal
 pub returns : goal.returns
 returns g c =
     let states = c.args.states.now in
-    let which = wanted.Numbered c.args.number in
+    let which = wanted.Numbered c.args.factory.number in
     let w : World = (own_state c.args.session.now).table.world in
     let seen = c.world-world.ensures ∙ ap (λ (j : JournalState g.row.L.Denot). j.world) c.storage.ensures in
     record {
