@@ -36,6 +36,15 @@ def standing(path):
     return file_number(found), found.st_size
 
 
+def standing_whole(path):
+    """The file that a path has now, and where its whole entries end: who starts cuts off what is torn behind them."""
+    try:
+        with open(path, "rb") as file:
+            return file_number(os.fstat(file.fileno())), read_log(file.read()).whole
+    except FileNotFoundError:
+        return None
+
+
 @dataclass
 class Part:
     """A file of a log, and what has to be added to a place in it for the place in the whole log."""

@@ -11,7 +11,7 @@ import time
 from collections import Counter
 
 from logs.form import FILE_HEADER_LENGTH, MOVED, Entry, Wrong, entries_of, front_of, read_log
-from logs.history import check_beside, file_number, standing
+from logs.history import check_beside, file_number, standing, standing_whole
 from logs.runs import FAULT, NO_CLEAN, SECONDS, node_path
 from logs.world import World
 
@@ -72,7 +72,7 @@ class Process(threading.Thread):
 
     def run(self):
         """Runs the process to its end, or kills it. It is started anew where its node is another's for a moment."""
-        self.began = standing(self.path)
+        self.began = standing_whole(self.path)
         for _ in range(STARTS):
             self.live()
             self.ended = standing(self.path)
