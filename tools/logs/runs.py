@@ -137,11 +137,14 @@ class Runs:
 class Living:
     """A process of the program that is given line after line."""
 
+    # How it is begun besides.
+    options = {}
+
     def __init__(self, runs, path, node, flags=(), wait=PATIENCE, **environment):
         self.runs, self.node = runs, node
         streams = {name: subprocess.PIPE for name in ("stdin", "stdout", "stderr")}
         words = runs.words(path, node, wait, flags)
-        self.process = subprocess.Popen(words, env=runs.environment(path, **environment), **streams)
+        self.process = subprocess.Popen(words, env=runs.environment(path, **environment), **streams, **self.options)
         self.timer = None
         self.watch()
         runs.count("processes")
