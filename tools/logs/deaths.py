@@ -261,16 +261,16 @@ def death_bytes(path, death):
 
 
 def left_alone(runs, death, name):
-    """Who starts with --no-clean or --explain leaves all as it was, and is refused what is in the way.
+    """Who starts with --no-clean leaves all as it was, also with --explain, and is refused what is in the way.
 
     The command clean gives it back then.
     """
     what = f"{name}, {NO_CLEAN}"
     path, maker = place(runs, f"{name}-left", death)
     old = path.read_bytes()
-    explained = runs.run(path, OTHER, ["list"], flags=["--explain"])
+    explained = runs.run(path, OTHER, ["list"], flags=["--explain", NO_CLEAN])
     fine = explained.status == 0 and not explained.err and path.read_bytes() == old
-    runs.need(fine, f"{what}: at a start with --explain something changed, and it replied {explained}")
+    runs.need(fine, f"{what}: at a start with --explain too something changed, and it replied {explained}")
     other = Living(runs, path, OTHER, [NO_CLEAN])
     replayed = runs.replay(old, what)
     listed = other.reply("list")
