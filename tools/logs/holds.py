@@ -10,10 +10,12 @@ from logs.history import FILLER
 from logs.storm import PREFIXES
 from logs.writing import created, event_form, header_bytes
 
-# How many services stand, and how many of them are a node's.
-SERVICES, SERVICES_EACH = 10000, 64
-# The commands, each with how the last line begins that it prints.
-LOOKS = {"list": f"{SERVICES} services", "show": "* differs", "check": f"sound: {4 * SERVICES} entries"}
+# Beside how many services a command is run, and how many where it may take long. What check does for an entry takes the
+# longer the more services there are.
+SERVICES = {"list": 4000, "show": 4000, "check": 500}
+MORE_SERVICES = {"list": 10000, "show": 10000, "check": 1000}
+# How many of them are a node's.
+SERVICES_EACH = 64
 # How long a command may keep others from the log at a time, and how often it is tried, since it may have to wait for a
 # processor.
 MOST_SECONDS = 0.05
@@ -23,10 +25,10 @@ PROBE_SECONDS = 0.0002
 PAUSE_SECONDS = 0.01
 
 
-def long_log():
+def long_log(services):
     """The bytes of a log in which so many services stand, of nodes that nobody ever claimed."""
     entries = []
-    for number in range(SERVICES):
+    for number in range(services):
         name = f"service/{number}"
         found = hashlib.sha1(PREFIXES["event"] + name.encode()).digest()
         node = FILLER + number // SERVICES_EACH
@@ -69,7 +71,12 @@ def is_held(file):
     return False
 
 
-def looked(runs, path, command):
+def last_line(command, services):
+    """How the last line begins that a command prints beside so many services."""
+    return {"list": f"{services} services", "show": "* differs", "check": f"sound: {4 * services} entries"}[command]
+
+
+def looked(runs, path, command, wanted):
     """Runs a command, and gives how long at most it had the log, and how long it took."""
     probe, begin = Probe(path), time.monotonic()
     probe.start()
@@ -77,25 +84,24 @@ def looked(runs, path, command):
     seconds = time.monotonic() - begin
     probe.is_over.set()
     probe.join()
-    fine = (ran.status, ran.err) == (0, "") and ran.out and ran.out[-1].startswith(LOOKS[command])
+    fine = (ran.status, ran.err) == (0, "") and ran.out and ran.out[-1].startswith(wanted)
     runs.need(fine, f"{command} of a long log: status {ran.status}: {ran.err[:200]}{ran.out[-1:]}")
     return probe.longest, seconds
 
 
-def check_command(runs, data, command):
+def check_command(runs, command, services):
     """A command has the log at no time for long."""
-    path, found = runs.file(f"holds-{command}", data), []
+    path, wanted, found = runs.file(f"holds-{command}", long_log(services)), last_line(command, services), []
     while len(found) < TRIES and not any(held <= MOST_SECONDS for held, _ in found):
-        found.append(looked(runs, path, command))
+        found.append(looked(runs, path, command, wanted))
     held, seconds = min(found)
-    what = f"{command} beside {SERVICES} services"
+    what = f"{command} beside {services} services"
     runs.need(held <= MOST_SECONDS, f"{what} keeps others from the log for {held * 1e3:.0f} milliseconds")
-    return f"{command} {held * 1e3:.0f} of {seconds * 1e3:.0f}"
+    return f"{what} {held * 1e3:.0f} of {seconds * 1e3:.0f}"
 
 
-def holds(runs):
+def holds(runs, services):
     """Each command by itself at a log of its own, all at once."""
-    data = long_log()
-    with ThreadPoolExecutor(len(LOOKS)) as pool:
-        found = list(pool.map(lambda command: check_command(runs, data, command), LOOKS))
-    print(f"beside {SERVICES} services others wait for so many milliseconds: {', '.join(found)}")
+    with ThreadPoolExecutor(len(services)) as pool:
+        found = list(pool.map(lambda command: check_command(runs, command, services[command]), services))
+    print(f"others wait for so many milliseconds: {', '.join(found)}")
