@@ -10,8 +10,8 @@ import time
 
 from logs.commands import BEGUN, Command, once
 from logs.form import FILE_HEADER_LENGTH, read_log
-from logs.runs import BUSY, FAULT, NO_CLEAN, NO_LOG, NO_PERMISSION, Living, Ran, at_once, front_before, fronts_of
-from logs.runs import leave_node, listings_of, node_files, node_path, snapshot, telling_first
+from logs.runs import BUSY, FAULT, NO_CLEAN, NO_LOG, NO_PERMISSION, STAYS, Living, Ran, at_once, front_before
+from logs.runs import fronts_of, leave_node, listings_of, node_files, node_path, snapshot, telling_first
 
 # Where in an entry a cut or a change tells most: its parts' bounds.
 BOUNDS = (-1, 0, 1, 4, 7, 8, 15, 16, 17, 25, 31, 39, 45)
@@ -28,7 +28,8 @@ LONG_NAME, TOLD = "n" * 300, 60
 # A user who isn't root, to whom permissions mean something.
 NOBODY = 65534
 # The commands that only look at a log, but for `watch`; and how many bytes its last entry lacks where it is torn.
-LOOKS = (["list"], ["list", "--json"], ["show", "lamps"], ["show", "lamps", "--json"], ["log"], ["check"])
+LOOKS = (["list"], ["list", "--json"], ["show", "lamps"], ["show", "lamps", "--json"], ["nodes"], ["log"], ["check"])
+LOOKS += (["clean", "--dry-run"],)
 TORN = 9
 
 
@@ -264,7 +265,8 @@ def check_watcher(runs, path, living, other, what):
 
 
 def readers(runs, data):
-    """A log that a user may only read, of nodes that nobody claimed, with a torn end, and of one that is alive."""
+    """A log that a user may only read, of nodes that nobody claimed, with a torn end, of one that is alive, and of a
+    dead one."""
     other = {"user": NOBODY, "group": NOBODY, "extra_groups": []} if can_be_nobody() else {}
     if os.geteuid() == 0 and not other:
         return
@@ -279,10 +281,14 @@ def readers(runs, data):
     path, what = runs.file("readers"), "a log in use that may only be read"
     living = Living(runs, path, NODE)
     living.reply(f"event create {NODE} 0 lamps")
-    for name in (path, node_path(path, NODE)):
+    dead = runs.file("readers-dead")
+    runs.held(dead, NODE, [f"event create {NODE} 0 lamps"])
+    for name in (path, dead):
         name.chmod(0o444)
+        node_path(name, NODE).chmod(0o444)
     if other:
         check_readers(runs, lambda: (path, path), other, what)
+        check_readers(runs, lambda: (dead, dead), other, "a log of a dead node that may only be read")
     check_watcher(runs, path, living, other, what)
     ran = living.end()
     runs.need((ran.status, ran.out, ran.err) == (0, [], ""), f"{what}: its user ended with {ran}")
@@ -462,17 +468,20 @@ def held_close(runs, _data):
 
 
 def held_end(runs, _data):
-    """A process ends while the script holds the log: it tells that something stays, and that is given back later."""
-    path, what = runs.file("held-end"), "an end while the log is held"
-    living = Living(runs, path, NODE, wait=200)
-    living.reply(f"event create {NODE} 0 kept")
-    before = snapshot(path)
-    with open(path, "rb") as file:
-        fcntl.flock(file, fcntl.LOCK_EX)
-        ended = living.end()
-    fine = (ended.status, ended.out) == (FAULT, []) and ended.err.startswith("wulameron: ") and ended.err.endswith("\n")
-    runs.need(fine, f"{what}: it ended with {ended}")
-    check_unchanged(runs, path, before, what)
-    ran = runs.clean(path)
-    wanted = [f"node {NODE}: 1 releases, 3 removals"]
-    runs.need((ran.status, ran.out, ran.err) == (0, wanted, ""), f"{what}: clean replied {ran}, and not {wanted}")
+    """A run and a hold end while the script holds the log: they tell that something stays. It is given back later."""
+    for name, words, line in (("run", [], f"event create {NODE} 0 kept\n"), ("hold", ["event", "create", "kept"], "")):
+        path, what = runs.file("held-end"), f"an end of {name} while the log is held"
+        command = Command(runs, path, name, "--node", str(NODE), "--wait", "200", *words)
+        command.process.stdin.write(line.encode())
+        command.process.stdin.flush()
+        command.line()
+        before = snapshot(path)
+        with open(path, "rb") as file:
+            fcntl.flock(file, fcntl.LOCK_EX)
+            status, _, err = command.end()
+        fine = status == FAULT and BUSY in err and err.endswith(f"wulameron: {path}: {STAYS}\n")
+        runs.need(fine, f"{what}: it ended with {status}: {err}")
+        check_unchanged(runs, path, before, what)
+        ran = runs.clean(path)
+        wanted = [f"node {NODE}: 1 releases, 3 removals"]
+        runs.need((ran.status, ran.out, ran.err) == (0, wanted, ""), f"{what}: clean replied {ran}, and not {wanted}")
