@@ -54,19 +54,25 @@ def has(runs, path, wanted, what):
     runs.need(fine, f"{what}: check replied {ran}")
 
 
+def answer_begins(at):
+    """How the answer begins to the call whose entry at this place is refused."""
+    if at < CLOSED:
+        return "PublishSubscribeCreateError::"
+    # A close whose release is refused leaves its slot open, to be closed again.
+    return "not closed 1" if at == CLOSED else "closed 1"
+
+
 def refused(runs, entries, at):
     """The entry at this place is refused, and all later ones of its call. Then there is room again."""
     path, what = runs.file(f"owed-{at}"), f"what is owed of a refused {entries[at].deed}, entry {at}"
     before, line = ([KEPT], OWED[0]) if at < CLOSED else ([KEPT, OWED[0]], OWED[1])
-    living = Limited(runs, path, NODE)
-    replies = [living.reply(one) for one in before]
+    living, is_open = Limited(runs, path, NODE), at == CLOSED
+    replies = [str(living.reply(one)) for one in before]
     living.limit(entries[at - 1].end + PIECE)
     answer = str(living.reply(line))
     living.limit()
-    # A close whose release is refused leaves its slot open, to be closed again.
-    is_open = at == CLOSED
-    fine = replies == ["ok 0 number=0", "ok 1 number=1"][: len(before)] and not answer.startswith("ok ")
-    runs.need(fine and (answer == "not closed 1") >= is_open, f"{what}: it replied {replies} and {answer!r}")
+    fine = all(reply.startswith("ok ") for reply in replies) and answer.startswith(answer_begins(at))
+    runs.need(fine, f"{what}: it replied {replies} and {answer!r}")
     listed = living.reply("list")
     runs.need(listed == f"{1 + is_open} services", f"{what}: then it listed {listed!r}")
     has(runs, path, TWO if is_open else ONE, what)
