@@ -12,7 +12,7 @@ from logs.writing import created, event_form, header_bytes
 
 # Beside how many services a command is run, and how many where it may take long. What check does for an entry takes the
 # longer the more services there are.
-SERVICES = {"list": 4000, "show": 4000, "check": 500}
+SERVICES = {"list": 2000, "show": 4000, "check": 300}
 MORE_SERVICES = {"list": 10000, "show": 10000, "check": 1000}
 # How many of them are a node's.
 SERVICES_EACH = 64

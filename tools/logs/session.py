@@ -8,6 +8,8 @@ from logs.runs import FAULT, PATIENCE, SECONDS
 
 NAME = "lamps"
 VERSION = 1
+# For how many milliseconds who wants a node waits that another has.
+SHORT_WAIT = 100
 # What stands before the texts of a frame: four numbers of 32 bits, three of 64, and how many bytes each text has.
 HEAD = struct.Struct("<IIIIQQQII")
 LONGEST = 65536
@@ -30,10 +32,10 @@ TOO_FEW_LISTENERS, TOO_MANY_NODES = 1013, 1016
 class Client:
     """A session over a log by a process of its own. It reads the frame that answers no call first."""
 
-    def __init__(self, runs, path, *words):
+    def __init__(self, runs, path, *words, wait=PATIENCE):
         self.runs = runs
         streams = {"stdin": subprocess.PIPE, "stdout": subprocess.PIPE, "stderr": subprocess.PIPE}
-        words = [runs.program, "session", "--at", str(path), "--wait", str(PATIENCE), *words]
+        words = [runs.program, "session", "--at", str(path), "--wait", str(wait), *words]
         self.process = subprocess.Popen(words, env=runs.environment(path), **streams)
         runs.count("processes")
         self.first = self.reply()
@@ -175,7 +177,7 @@ def check_blocked(runs, path, maker):
 
 def check_starts(runs, path):
     """A node that is alive isn't claimed twice, and what is no log has no session. A call with a long text ends one."""
-    again = Client(runs, path, "--node", "1")
+    again = Client(runs, path, "--node", "1", wait=SHORT_WAIT)
     runs.need(again.first is not None and again.first[0] == NODE_IN_USE, f"a claimed node is answered by {again.first}")
     runs.need(again.end() == (FAULT, b"", b""), "a session whose node is in use ends otherwise")
     other = runs.file("session_of_no_log", b"no log at all, but a text that is long enough to be read as one")
