@@ -7,9 +7,9 @@ import resource
 from logs.commands import once
 from logs.deaths import CLOSED_LAST, CREATED
 from logs.form import read_log
-from logs.runs import Living, at_once
+from logs.runs import FAULT, STAYS, Living, at_once
 
-NODE = 61
+NODE, OTHER = 61, 62
 # What stays open meanwhile, and what is made and closed beside it.
 KEPT, OWED = f"event create {NODE} 0 kept", [f"pubsub create {NODE} 1 owed", "close 1"]
 DEEDS = [*CREATED, *CREATED, *CLOSED_LAST, *CLOSED_LAST]
@@ -87,8 +87,22 @@ def refused(runs, entries, at):
         runs.need(not replayed[1].remains(), f"{what}: in the end there is {replayed[1].remains()}")
 
 
+def refused_hold(runs, length):
+    """A hold whose call is refused in its midst can't give back what that left, and tells so. Then clean does."""
+    path, what = runs.file("owed-hold"), "a hold whose call is refused in its midst"
+    runs.run(path, OTHER, ["list"])
+    words = [runs.program, "hold", "--at", str(path), "--node", str(NODE), "event", "create", "kept"]
+    others = {"env": runs.environment(path), "restore_signals": False}
+    ran = runs.ran(words, preexec_fn=lambda: resource.setrlimit(resource.RLIMIT_FSIZE, (length, length)), **others)
+    fine = (ran.status, ran.out) == (FAULT, []) and ran.err.endswith(f"wulameron: {path}: {STAYS}\n")
+    runs.need(fine, f"{what}: it ended with {ran}")
+    ran, wanted = runs.clean(path), [f"node {NODE}: 0 releases, 1 removals"]
+    runs.need((ran.status, ran.out, ran.err) == (0, wanted, ""), f"{what}: clean replied {ran}, and not {wanted}")
+
+
 def owed(runs):
-    """Each entry of a create and of a close, refused one at a time."""
+    """Each entry of a create and of a close, refused one at a time, and a hold that is refused."""
     entries = whole(runs)
     if entries:
         at_once(lambda at: refused(runs, entries, at), range(MADE, DONE), 0)
+        refused_hold(runs, entries[0].end + PIECE)
