@@ -224,7 +224,7 @@ def cut_snapshots(runs):
 
 
 def stayed(runs):
-    """A mark at the end of the file that has the path is cut off, by who is there and by who comes."""
+    """A mark at the end of the file that has the path is cut off, by the next call of who is there and by who comes."""
     for is_there in (True, False):
         path, what = runs.file("stayed"), f"a mark of who died, {'at an access' if is_there else 'at a start'}"
         living = Living(runs, path, OTHER)
@@ -234,10 +234,14 @@ def stayed(runs):
             file.write(MARK)
         if is_there:
             runs.need(living.listing()[-1] == "1 services", f"{what}: it listed another world")
+            runs.need(path.read_bytes() == data + MARK, f"{what}: a list cut it off")
+            living.reply(f"event create {OTHER} 1 other")
         else:
             ran = runs.run(path, NODE, ["list"])
             runs.need(ran.out[-1:] == ["1 services"] and not ran.err, f"{what}: it replied {ran}")
-        runs.need(path.read_bytes() == data, f"{what}: it isn't cut off")
+        after = path.read_bytes()
+        fine = after.startswith(data) and not after.startswith(data + MARK) and is_there == (after != data)
+        runs.need(fine, f"{what}: it isn't cut off")
         check_end(runs, path, [living], what)
 
 
