@@ -1,0 +1,156 @@
+"""A server of one's own: in a folder of its own, of an ordinary user, at a socket and at addresses with a free port."""
+import os
+import pathlib
+import pwd
+import shutil
+import signal
+import socket
+import subprocess
+
+from postgres.checks import SECONDS, until
+
+TOP = pathlib.Path(__file__).resolve().parent.parent.parent
+SCHEMA = TOP / "postgres/schema.sql"
+LAUNCHER = TOP / "postgres/wulameron-postgres"
+OLDEST = 15
+OWNER, DATABASE, ROLE = "owner", "logs", "lamps"
+# The user who has the server where a check runs as root, whom the server refuses.
+ORDINARY = "nobody"
+# Nothing here tests what a crash of the machine leaves, so nothing waits for the disk.
+SETTINGS = {"fsync": "off", "shared_buffers": "'32MB'", "max_connections": "60", "log_statement": "'none'"}
+FAST, IMMEDIATE = signal.SIGINT, signal.SIGQUIT
+
+
+def binaries():
+    """The folder of the server's programs, of version 15 or later; nothing where there is none."""
+    folders = sorted(pathlib.Path("/usr/lib/postgresql").glob("*/bin"), key=lambda path: -float(path.parent.name))
+    if found := shutil.which("initdb"):
+        folders.append(pathlib.Path(found).resolve().parent)
+    for folder in folders:
+        if (folder / "initdb").exists() and (folder / "postgres").exists() and version(folder / "postgres") >= OLDEST:
+            return folder
+    return None
+
+
+def version(program):
+    """The version of a program of the database."""
+    words = subprocess.run([program, "--version"], capture_output=True, text=True, check=True).stdout.split()
+    return int(words[2].split(".")[0])
+
+
+def free_port():
+    """A port at which nobody is."""
+    with socket.socket() as found:
+        found.bind(("127.0.0.1", 0))
+        return found.getsockname()[1]
+
+
+def as_ordinary():
+    """As whom the server's programs run."""
+    if os.geteuid() != 0:
+        return {}
+    user = pwd.getpwnam(ORDINARY)
+    return {"user": user.pw_uid, "group": user.pw_gid, "extra_groups": []}
+
+
+class Server:
+    """A server that is started, and ended with its folder's user."""
+
+    def __init__(self, programs, folder, addresses="127.0.0.1", networks=(), namespace=None, **settings):
+        self.programs, self.folder, self.data, self.port = programs, folder, folder / "data", free_port()
+        self.addresses, self.settings, self.namespace = addresses, SETTINGS | settings, namespace
+        self.networks = networks
+        self.process, self.log = None, folder / "server.log"
+        folder.mkdir()
+        folder.chmod(0o755)
+        if os.geteuid() == 0:
+            shutil.chown(folder, ORDINARY)
+
+    def run(self, program, *words, **others):
+        """Runs a program of the server to its end."""
+        words = [str(self.programs / program), *map(str, words)]
+        return subprocess.run(words, cwd=self.folder, capture_output=True, text=True, check=True, timeout=SECONDS,
+                              **as_ordinary(), **others)
+
+    def make(self):
+        """Makes the server's files, with a database that has the schema, and a login role of a node; starts it."""
+        self.run("initdb", "--pgdata", self.data, "--username", OWNER, "--auth", "trust", "--encoding", "UTF8",
+                 "--locale", "C", "--no-sync", "--no-instructions")
+        self.admit(*(f"host all all {network} trust" for network in self.networks),
+                   *(f"host replication all {network} trust" for network in self.networks))
+        self.start()
+        self.script("postgres", f"create database {DATABASE}")
+        self.script(DATABASE, f"\\i {SCHEMA}", f"create role {ROLE} login in role wulameron_node")
+        return self
+
+    def admit(self, *lines):
+        """Writes lines before those that say who is let in."""
+        path = self.data / "pg_hba.conf"
+        path.write_text("".join(f"{line}\n" for line in lines) + path.read_text())
+
+    def start(self):
+        """Starts it, and waits until it answers."""
+        settings = self.settings | {"port": self.port, "listen_addresses": f"'{self.addresses}'"}
+        settings |= {"unix_socket_directories": f"'{self.folder}'"}
+        lines = [f"{name} = {value}\n" for name, value in settings.items()]
+        (self.data / "own.conf").write_text("".join(lines))
+        shutil.chown(self.data / "own.conf", ORDINARY) if os.geteuid() == 0 else None
+        words = [str(self.programs / "postgres"), "-D", str(self.data), "-c", f"config_file={self.data}/own.conf"]
+        words += ["-c", f"hba_file={self.data}/pg_hba.conf"]
+        if self.namespace:
+            words = ["ip", "netns", "exec", self.namespace, "setpriv", f"--reuid={ORDINARY}", "--regid=nogroup",
+                     "--clear-groups", *words]
+        user = {} if self.namespace else as_ordinary()
+        with open(self.log, "ab") as log:
+            self.process = subprocess.Popen(words, cwd=self.folder, stdout=log, stderr=log, start_new_session=True, **user)
+        if not until(self.answers):
+            raise RuntimeError(f"the server doesn't start: {self.log.read_text()[-2000:]}")
+        return self
+
+    def answers(self):
+        """Whether it lets a session begin."""
+        return self.ask("select 1", database="postgres").returncode == 0
+
+    def stop(self, how=FAST):
+        """Ends it, and with it all its sessions."""
+        if self.process and self.process.poll() is None:
+            self.process.send_signal(how)
+            self.process.wait(SECONDS)
+
+    def environment(self, role=ROLE, database=DATABASE, **others):
+        """By what a client's library knows this server."""
+        kept = {name: value for name, value in os.environ.items() if not name.startswith("PG")}
+        kept |= {"PGHOST": str(self.folder), "PGPORT": str(self.port), "PGUSER": role, "PGDATABASE": database}
+        return kept | {"PGCONNECT_TIMEOUT": "10"} | others
+
+    def ask(self, text, role=OWNER, database=DATABASE):
+        """Has psql ask one thing in a session of its own."""
+        words = ["psql", "-XAtqw", "-v", "ON_ERROR_STOP=1", "-c", text]
+        return subprocess.run(words, env=self.environment(role, database), capture_output=True, text=True,
+                              timeout=SECONDS)
+
+    def told(self, text, role=OWNER, database=DATABASE):
+        """The lines of the answer to one question."""
+        ran = self.ask(text, role, database)
+        if ran.returncode:
+            raise RuntimeError(f"{text}: {ran.stderr}")
+        return ran.stdout.splitlines()
+
+    def script(self, database, *lines):
+        """Has psql run some lines as the owner."""
+        text = "".join(line if line.startswith("\\") else f"{line};" for line in (f"{one}\n" for one in lines))
+        ran = subprocess.run(["psql", "-Xqw", "-v", "ON_ERROR_STOP=1"], input=text, text=True, timeout=SECONDS,
+                             env=self.environment(OWNER, database), capture_output=True)
+        if ran.returncode:
+            raise RuntimeError(ran.stderr)
+
+
+def replica(server, folder, name="replica", **settings):
+    """A server that follows another one, and may take over."""
+    other = Server(server.programs, folder, addresses=server.addresses, **{**server.settings, **settings})
+    server.run("pg_basebackup", "--pgdata", other.data, "--checkpoint", "fast", "--no-sync", "--host", server.folder,
+               "--port", server.port, "--username", OWNER, "--wal-method", "stream")
+    (other.data / "standby.signal").touch()
+    whom = f"host={server.folder} port={server.port} user={OWNER} application_name={name}"
+    other.settings |= {"primary_conninfo": f"'{whom}'", "hot_standby": "on"}
+    return other.start()
