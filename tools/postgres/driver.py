@@ -153,10 +153,10 @@ class Log:
     def append(self, data):
         """Appends an entry, of which the commit was told."""
         told = self.session.told(texts.appending(self.log, self.generation, self.number + 1, data), "appended")
-        number, chain = told[0].split(" ")
-        if len(told) > 1 or int(number) != self.number + 1:
+        cells = told[0].split(" ") if len(told) == 1 else []
+        if cells[:1] != [str(self.number + 1)]:
             raise Other([*told, "appended 00000"])
-        self.number, self.chain = int(number), chain
+        self.number, self.chain = self.number + 1, cells[1]
 
     def let_go(self):
         """Gives the gate back."""

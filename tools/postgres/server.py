@@ -88,13 +88,25 @@ class Server:
         path = self.data / "pg_hba.conf"
         path.write_text("".join(f"{line}\n" for line in lines) + path.read_text())
 
-    def start(self):
-        """Starts it, and waits until it answers."""
+    def write_settings(self):
+        """Writes its settings."""
         settings = self.settings | {"port": self.port, "listen_addresses": f"'{self.addresses}'"}
         settings |= {"unix_socket_directories": f"'{self.folder}'"}
-        lines = [f"{name} = {value}\n" for name, value in settings.items()]
-        (self.data / "own.conf").write_text("".join(lines))
-        shutil.chown(self.data / "own.conf", ORDINARY) if os.geteuid() == 0 else None
+        path = self.data / "own.conf"
+        path.write_text("".join(f"{name} = {value}\n" for name, value in settings.items()))
+        path.chmod(0o644)
+
+    def set(self, name, value):
+        """Changes a setting while it runs, and waits until that is known."""
+        self.settings[name] = f"'{value}'"
+        self.write_settings()
+        self.process.send_signal(signal.SIGHUP)
+        if not until(lambda: self.told(f"show {name}") == [value]):
+            raise RuntimeError(f"{name} doesn't become {value}")
+
+    def start(self):
+        """Starts it, and waits until it answers."""
+        self.write_settings()
         words = [str(self.programs / "postgres"), "-D", str(self.data), "-c", f"config_file={self.data}/own.conf"]
         words += ["-c", f"hba_file={self.data}/pg_hba.conf"]
         if self.namespace:

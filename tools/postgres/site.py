@@ -1,7 +1,9 @@
 """Where a check works: its servers, and the program under the launcher."""
+import os
 import pathlib
 import signal
 import subprocess
+import threading
 from dataclasses import dataclass
 
 from postgres.checks import SECONDS
@@ -10,6 +12,12 @@ from postgres.server import IMMEDIATE, LAUNCHER, Server
 # The plain driver, which is a program of the same words.
 PLAIN = pathlib.Path(__file__).resolve().parent / "plain"
 PATIENCE = 10000
+# How a program ends that can't use its log any more.
+FAULT = 3
+# What another session has, and whether it does nothing meanwhile, by the name that it goes under.
+AT_WORK = """select a.state, a.wait_event, a.pid, exists (select from pg_locks l where l.pid = a.pid
+    and locktype = 'advisory' and classid = 'wulameron.logs'::regclass and granted)
+    from pg_stat_activity a where application_name = '{}' and backend_type = 'client backend'"""
 
 
 @dataclass(frozen=True)
@@ -27,6 +35,8 @@ class Site:
     def __init__(self, checks, program, programs, room):
         self.checks, self.program, self.programs, self.room = checks, program, programs, room
         self.servers, self.first = [], None
+        # Whether some processes of a storm are the plain driver.
+        self.is_mixed = False
 
     @property
     def server(self):
@@ -71,3 +81,87 @@ class Site:
         except subprocess.TimeoutExpired:
             return Ran(-signal.SIGALRM, [], f"it ran for {SECONDS} seconds")
         return Ran(ran.returncode, ran.stdout.splitlines(), ran.stderr)
+
+    def living(self, name, node, server=None, *words, **others):
+        """A process that is given line after line, and whose session goes under a name of its own."""
+        words = ["--node", str(node), "--wait", str(PATIENCE), *words]
+        others |= {"PGAPPNAME": f"{name}-{node}"}
+        return Living(self.checks, self.words("run", name, *words), self.environment(server, **others))
+
+
+def session_of(owner, process):
+    """What the session of a process is at, as the owner sees it: its state, what it waits for, the server's process for
+    it, and whether it has a gate; nothing where there is none."""
+    told = owner.call(AT_WORK.format(process.title))
+    return told[0].split("|") if told else None
+
+
+class Living:
+    """A process of the program under the launcher."""
+
+    def __init__(self, checks, words, environment):
+        self.checks, self.title = checks, environment["PGAPPNAME"]
+        streams = {name: subprocess.PIPE for name in ("stdin", "stdout", "stderr")}
+        self.process = subprocess.Popen(words, env=environment, text=True, **streams)
+        self.timer = threading.Timer(2 * SECONDS, self.process.kill)
+        self.timer.start()
+        checks.count("processes")
+
+    @property
+    def pid(self):
+        """Its number."""
+        return self.process.pid
+
+    def say(self, *lines):
+        """Gives it lines, and reads no reply."""
+        self.process.stdin.write("".join(f"{line}\n" for line in lines))
+        self.process.stdin.flush()
+
+    def reply(self, line):
+        """The reply's last line; nothing where it ends before."""
+        self.checks.count("calls")
+        try:
+            self.say(line)
+        except BrokenPipeError:
+            return None
+        return self.hear(line == "list")
+
+    def hear(self, is_list=False):
+        """A line that it replies, or the last one of a list; nothing where it ends before."""
+        text = self.process.stdout.readline()
+        while is_list and text and not text.endswith(" services\n"):
+            text = self.process.stdout.readline()
+        return text.rstrip("\n") if text else None
+
+    def end(self):
+        """Has it end by itself, and gives what it wrote since then."""
+        out, err = self.process.communicate()
+        self.timer.cancel()
+        return Ran(self.process.returncode, out.splitlines(), err)
+
+    def kill(self, how=signal.SIGKILL):
+        """Kills it."""
+        self.checks.count("kills")
+        self.process.send_signal(how)
+        return self.end()
+
+    def psql(self):
+        """The process of its psql; nothing where there is none."""
+        for name in os.listdir("/proc"):
+            if name.isdigit():
+                try:
+                    stat = pathlib.Path(f"/proc/{name}/stat").read_text(encoding="utf-8", errors="replace")
+                except OSError:
+                    continue
+                program, _, rest = stat.partition("(")[2].rpartition(")")
+                if program == "psql" and rest.split()[1] == str(self.pid):
+                    return int(name)
+        return None
+
+
+def check_over(checks, ran, name, what):
+    """It ended since its log can't be used any more, and tells that in a line."""
+    begins = f"wulameron: postgres:{name}: "
+    fine = ran.status == FAULT and ran.err.startswith(begins) and ran.err.count("\n") == 1
+    checks.count("sessions ended")
+    return checks.need(fine, f"{what}: status {ran.status}: {ran.err!r}")

@@ -116,7 +116,7 @@ def add_generation(checks, table, rows, is_last, what):
         table.world, table.snapshot = after_snapshot(checks, table, [one for one in entries if one.deed != MOVED], what)
     for row, entry in zip(rows[1:], entries):
         if row.number > table.snapshot and entry.deed != MOVED:
-            entry = replace(entry, at=table.whole)
+            entry = replace(entry, at=table.whole, count=1)
             table.world.follow(entry)
             table.entries.append(entry)
         table.rows[row.generation, row.number] = len(table.entries)
