@@ -9,6 +9,7 @@ from postgres import texts
 PSQL = ["psql", "--no-psqlrc", "--quiet", "--no-align", "--tuples-only", "--no-password", "--set", "VERBOSITY=sqlstate"]
 PSQL += ["--set", "ON_ERROR_STOP=0", "--set", "FETCH_COUNT=0"]
 PIECE = 64
+VERSION = "1"
 BUSY = "55P03"
 
 
@@ -114,7 +115,9 @@ class Log:
 
     def begin(self, line):
         """Stands at the begin of the generation that was told."""
-        _, self.log, self.generation, self.counter, self.snapshot, chain = line.split(" ")
+        version, self.log, self.generation, self.counter, self.snapshot, chain = line.split(" ")
+        if version != VERSION:
+            raise Other([f"the schema is of version {version}"])
         self.log, self.generation = int(self.log), int(self.generation)
         self.counter, self.snapshot = int(self.counter), int(self.snapshot)
         self.number, self.chain = 0, chain

@@ -62,7 +62,7 @@ class Site:
 
     def environment(self, server=None, **others):
         """That of the launcher."""
-        return (server or self.server).environment(WULAMERON=str(self.program), **others)
+        return (server or self.server).environment(**{"WULAMERON": str(self.program), **others})
 
     def words(self, command, name, *words):
         """The words by which a command is run at a log."""
