@@ -84,9 +84,12 @@ class Site:
 
     def living(self, name, node, server=None, *words, **others):
         """A process that is given line after line, and whose session goes under a name of its own."""
-        words = ["--node", str(node), "--wait", str(PATIENCE), *words]
-        others |= {"PGAPPNAME": f"{name}-{node}"}
-        return Living(self.checks, self.words("run", name, *words), self.environment(server, **others))
+        words = self.words("run", name, "--node", str(node), "--wait", str(PATIENCE), *words)
+        return self.living_of(words, name, node, self.environment(server, **others))
+
+    def living_of(self, words, name, node, environment):
+        """The same by these words."""
+        return Living(self.checks, words, environment | {"PGAPPNAME": f"{name}-{node}"})
 
 
 def session_of(owner, process):
