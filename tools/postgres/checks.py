@@ -16,6 +16,15 @@ class Checks:
         self.counts, self.wrong = Counter(), []
         self.mutex = threading.Lock()
 
+    def part(self):
+        """Checks of a part, which are counted by themselves until they are added."""
+        return Checks(self.random.randrange(10**6))
+
+    def add(self, others):
+        """Adds those of a part."""
+        self.counts += others.counts
+        self.wrong += others.wrong
+
     def count(self, what, number=1):
         """So many more of these were done."""
         with self.mutex:

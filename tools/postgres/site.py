@@ -1,4 +1,5 @@
 """Where a check works: its servers, and the program under the launcher."""
+import copy
 import os
 import pathlib
 import signal
@@ -34,16 +35,19 @@ class Site:
 
     def __init__(self, checks, program, programs, room):
         self.checks, self.program, self.programs, self.room = checks, program, programs, room
-        self.servers, self.first = [], None
+        self.servers, self.server = [], None
         # Whether some processes of a storm are the plain driver.
         self.is_mixed = False
 
-    @property
-    def server(self):
-        """The first server, which is made once."""
-        if self.first is None:
-            self.first = self.add(Server(self.programs, self.room / "server")).make()
-        return self.first
+    def part(self, checks):
+        """The same site with checks of its own."""
+        found = copy.copy(self)
+        found.checks = checks
+        return found
+
+    def begin(self):
+        """Makes the server of the parts that have none of their own."""
+        self.server = self.add(Server(self.programs, self.room / "server")).make()
 
     def add(self, server):
         """Has a server ended in the end."""
@@ -135,6 +139,14 @@ class Living:
         while is_list and text and not text.endswith(" services\n"):
             text = self.process.stdout.readline()
         return text.rstrip("\n") if text else None
+
+    def listing(self):
+        """All lines of a list."""
+        self.say("list")
+        lines = [self.hear()]
+        while lines[-1] and not lines[-1].endswith(" services"):
+            lines.append(self.hear())
+        return lines
 
     def end(self):
         """Has it end by itself, and gives what it wrote since then."""
