@@ -117,7 +117,7 @@ class Log:
         """Stands at the begin of the generation that was told."""
         version, self.log, self.generation, self.counter, self.snapshot, chain = line.split(" ")
         if version != VERSION:
-            raise Other([f"the schema is of version {version}"])
+            raise Other([f"the tables are of version {version}; use a program of that version"])
         self.log, self.generation = int(self.log), int(self.generation)
         self.counter, self.snapshot = int(self.counter), int(self.snapshot)
         self.number, self.chain = 0, chain

@@ -156,16 +156,16 @@ def server_refused(site, room):
 
 def all_taken(site):
     """All sessions of a server are taken."""
-    server, left = site.server, "select {} - count(*) from pg_stat_activity where backend_type = 'client backend'"
-    count = int(server.told("show max_connections")[0]) - RESERVED
+    server, count = site.server, int(site.server.told("show max_connections")[0])
+    others = "select count(*) from pg_stat_activity where backend_type = 'client backend' and pid <> pg_backend_pid()"
     with contextlib.ExitStack() as found:
         for _ in range(count):
             one = found.enter_context(socket.socket(socket.AF_UNIX))
             one.connect(f"{server.folder}/.s.PGSQL.{server.port}")
             one.sendall(struct.pack(">II", len(BEGIN) + 8, PROTOCOL) + BEGIN)
-        until(lambda: int(server.told(left.format(count))[0]) <= 0)
+        until(lambda: int(server.told(others)[0]) >= count - RESERVED)
         check_launched(site, "too many sessions", ["list"], ["connection slots are reserved", "max_connections"])
-    until(lambda: int(server.told(left.format(count))[0]) > count - RESERVED)
+    until(lambda: int(server.told(others)[0]) < RESERVED)
 
 
 def check_program(site, what, name, wanted, command=("run", "--node", "1"), lines=("event create 1 0 lamps",), **others):
@@ -184,16 +184,17 @@ def program_refused(site):
     server.told("create role readers login in role wulameron_node")
     server.told("alter role readers set default_transaction_read_only = on")
     site.ran("run", "errors", "--node", "9", lines=["list"])
-    check_program(site, "no schema", "errors", ["schema"], PGDATABASE="empty")
-    check_program(site, "no right", "errors", ["right"], PGUSER="poor")
-    check_program(site, "a session that may only read", "errors", ["read"], PGUSER="readers")
+    check_program(site, "no schema", "errors", ["the database has no tables for logs; ", "schema.sql"], PGDATABASE="empty")
+    check_program(site, "no right", "errors", ["the role lacks a right; "], PGUSER="poor")
+    check_program(site, "a session that may only read", "errors", ["the database is read-only; "], PGUSER="readers")
     version(site)
     busy(site)
     if not site.is_plain:
-        check_program(site, "no log", "nothing", ["no log"], command=("list",), lines=())
+        check_program(site, "no log", "nothing", ["the database has no log of this name; "], command=("list",), lines=())
         for name in ("", "a b", "-a", "a" * 64, "a'b", "a\nb"):
             ran = site.ran("run", name, "--node", "1")
-            site.checks.need(ran.status == WRONG_ARGUMENTS and name[:1] in ran.err, f"the name {name!r}: {ran}")
+            fine = ran.status in (WRONG_ARGUMENTS, FAULT) and "is no name of a log" in ran.err
+            site.checks.need(fine and ran.err.count("\n") == 1, f"the name {name!r}: {ran}")
 
 
 def version(site):
@@ -204,7 +205,7 @@ def version(site):
     text = "\n".join(body).replace("concat_ws(' ', 1,", "concat_ws(' ', 2,")
     server.told(f"create or replace function wulameron.opened(name text, makes boolean) returns setof text language plpgsql "
                 f"security definer set search_path = pg_catalog, pg_temp as $$ {text} $$", database="another")
-    check_program(site, "another version", "errors", ["version 2"], PGDATABASE="another")
+    check_program(site, "another version", "errors", ["the tables are of version 2; "], PGDATABASE="another")
 
 
 def busy(site):

@@ -42,9 +42,11 @@ class Machine:
         """Cuts its link."""
         ip("-n", self.hub, "link", "set", self.link, "down")
 
-    def mend(self):
-        """Mends its link."""
+    def mend(self, port):
+        """Mends its link, and waits until the server's port is there again."""
         ip("-n", self.hub, "link", "set", self.link, "up")
+        words = ["ip", "netns", "exec", self.name, "bash", "-c", f"exec 3<>/dev/tcp/{self.server}/{port}"]
+        until(lambda: not subprocess.run(words, capture_output=True, check=False).returncode, pause=0.2)
 
 
 class Network:
@@ -128,7 +130,7 @@ def cut_within(near, far, owner):
     checks.same(server.told("select wulameron.nodes('cut-idle')"), ["2 dead"], "a node that is cut off")
     meanwhile(near, "cut-idle", "while another is cut off")
     check_over(checks, doubtful.end(), "cut-append", "a process that was cut off within an append")
-    far.machine.mend()
+    far.machine.mend(far.server.port)
     os.kill(holding.pid, signal.SIGCONT)
     check_over(checks, holding.end(), "cut-hold", "a process that was cut off within a hold")
     checks.same(idle.reply("event create 2 0 late"), None, "the reply to who was cut off")
@@ -140,7 +142,7 @@ def cut_shortly(far):
     process = begin(far, "cut-shortly", 2)
     far.machine.cut()
     time.sleep(SHORT_CUT)
-    far.machine.mend()
+    far.machine.mend(far.server.port)
     reply = process.reply("event create 2 0 after")
     far.checks.need(reply and reply.startswith("ok 0 "), f"after a short cut: {reply}")
     ran = process.end()
