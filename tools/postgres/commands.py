@@ -1,0 +1,146 @@
+"""The commands that look at a log, hold a call and clean up, beside each other, with a process killed in between: what
+they print is what a reader in Python finds in the table."""
+import json
+import signal
+import time
+
+from logs.commands import BEGUN, NAME, REFUSED, VERBS, Command, check_change
+from postgres.checks import until
+from postgres.server import LAUNCHER
+from postgres.table import read_rows, replay
+
+LOG = "commands"
+
+
+class Shown:
+    """The site, as the commands over files know theirs: their words begin with the launcher, and their paths are names."""
+
+    program = str(LAUNCHER)
+
+    def __init__(self, site):
+        self.site, self.need, self.count = site, site.checks.need, site.checks.count
+
+    def environment(self, _path):
+        """That of the launcher."""
+        return self.site.environment()
+
+    def command(self, *words):
+        """A command at the log, whose input is open until it is ended."""
+        return Command(self, f"postgres:{LOG}", *words)
+
+    def once(self, command, *words):
+        """Runs a command until it ends."""
+        return self.site.ran(command, LOG, *words)
+
+
+def check_listed(shown, alive, what):
+    """The list has the service with these nodes, each alive or not, as it is in the table."""
+    need, ran = shown.need, shown.once("list", "--json")
+    need(ran.status == 0, f"{what}: list ended with {ran.status}: {ran.err}")
+    found = json.loads("\n".join(ran.out) or "null") or []
+    nodes = [{"alive": is_alive, "factories": 1, "node": node} for node, is_alive in sorted(alive.items())]
+    need([one["name"] for one in found] == [NAME] * bool(alive), f"{what}: list has {found}")
+    if found and alive:
+        need(found[0]["nodes"] == nodes, f"{what}: list has the nodes {found[0]['nodes']}, not {nodes}")
+    table = replay(shown.site.checks, shown.site.server, LOG, what)
+    if table:
+        members = {ticket.node for ticket in table.world.tickets.values()}
+        need(members == set(alive), f"{what}: the table has the nodes {members}, not {set(alive)}")
+    lines = shown.once("list").out
+    need(lines[-1:] == [f"{len(found)} services"], f"{what}: list printed {lines}")
+
+
+def check_dead(shown):
+    """One of both nodes is dead: what shows it, and what cleans up for it."""
+    need = shown.need
+    wanted = ["node 1 alive", "node 2 dead", "node 3 dead"]
+    nodes = until(lambda: (ran := shown.once("nodes")).out == wanted and ran, pause=0.1)
+    need(nodes, f"nodes printed {shown.once('nodes')}, not {wanted}")
+    found = json.loads("".join(shown.once("nodes", "--json").out) or "null")
+    need(found == [{"alive": node == 1, "node": node} for node in (1, 2, 3)], f"nodes --json printed {found}")
+    check_listed(shown, {1: True, 2: False}, "after a kill")
+    before = read_rows(shown.site.server, LOG)
+    dry = shown.once("clean", "--dry-run")
+    need(dry.status == 0 and len(dry.out) == 1 and "node 2" in dry.out[0], f"clean --dry-run: {dry}")
+    alive = shown.once("clean", "1")
+    need(alive.status == REFUSED and "alive" in alive.err, f"clean of a node that is alive: {alive}")
+    never = shown.once("clean", "77")
+    need(never.status == REFUSED and "never claimed" in never.err, f"clean of a node that was never claimed: {never}")
+    need(read_rows(shown.site.server, LOG) == before, "clean --dry-run, or a clean that is refused, changed the log")
+    ran = shown.once("clean", "2")
+    need(ran.status == 0 and ran.out == ["node 2: 1 releases, 1 removals"], f"clean 2: {ran}")
+    check_listed(shown, {1: True}, "after a clean")
+
+
+def check_log(shown, first, follower):
+    """The lines that log printed as they came, the first of which was read, are the entries of the table, and those that
+    log prints at once."""
+    need = shown.need
+    table = replay(shown.site.checks, shown.site.server, LOG, "after all commands")
+    if not table:
+        return
+    lines = [first, *(follower.line() for _ in table.entries[1:])]
+    status, rest, err = follower.end(interrupt=True)
+    lines += rest
+    need(status == -signal.SIGINT, f"log --follow ended with {status}: {err}")
+    wanted = [f"{at} node {one.node} {VERBS[one.deed]} " for at, one in enumerate(table.entries)]
+    need(len(lines) == len(wanted), f"log --follow printed {len(lines)} lines of {len(wanted)} entries")
+    for line, front in zip(lines, wanted):
+        need((line or "").startswith(front), f"log --follow printed {line!r}, not {front!r}")
+    need(shown.once("log").out == lines, "log prints other lines than log --follow")
+    need(shown.once("log", "--from", "5").out == lines[5:], "log --from prints other lines")
+    sound = shown.once("check")
+    need(sound.status == 0 and sound.out[0].startswith(f"sound: {len(lines)} entries"), f"check: {sound}")
+
+
+def check_damaged(shown):
+    """A log of which a row was changed isn't sound, and no node uses it."""
+    server, need = shown.site.server, shown.need
+    of = f"log = (select log from wulameron.logs where name = '{LOG}') and seq = 3"
+    server.script("logs", "alter table wulameron.entries disable trigger all",
+                  f"update wulameron.entries set bytes = set_byte(bytes, 30, get_byte(bytes, 30) # 1) where {of}",
+                  "alter table wulameron.entries enable trigger all")
+    found = shown.once("check")
+    need(found.status == 1 and found.out[0].startswith("wrong at "), f"check of a log that was changed: {found}")
+    before = read_rows(server, LOG)
+    for words in (("list",), ("log",), ("run", "--node", "1"), ("clean",)):
+        ran = shown.once(*words)
+        need(ran.status == 3 and "damaged at entry 3" in ran.err, f"{words} of a log that was changed: {ran}")
+    need(read_rows(server, LOG) == before, "a log that was changed is written to")
+
+
+def commands(site):
+    """A service is held by two processes of which one is killed, while others watch."""
+    if site.is_plain:
+        return "left out, since the plain driver has no such commands"
+    shown = Shown(site)
+    need = shown.need
+    maker = shown.command("hold", "--node", "1", "event", "create", NAME, "max_nodes=3")
+    need(maker.line() == f"name: {NAME}", "hold doesn't print what was agreed")
+    watch = shown.command("watch", "--json")
+    follower = shown.command("log", "--follow")
+    first = follower.line()
+    time.sleep(BEGUN)
+    opener = shown.command("hold", "--node", "2", "event", "open", NAME)
+    need(opener.line() == f"name: {NAME}", "hold of an open doesn't print what was agreed")
+    check_change(shown, watch, "opened", 2)
+    again = shown.once("hold", "--node", "3", "event", "create", NAME)
+    need(again.status == REFUSED and "EventCreateError::AlreadyExists" in again.err, f"a second create: {again}")
+    check_listed(shown, {1: True, 2: True}, "with two nodes")
+    show = shown.once("show", NAME)
+    need(show.out[:1] == [f"name: {NAME}"] and "node 2: 1 factories, alive" in show.out, f"show: {show}")
+    absent = shown.once("show", "nothing")
+    need(absent.status == REFUSED and "no such service" in absent.err, f"show of no service: {absent}")
+    opener.kill(shown)
+    check_dead(shown)
+    check_change(shown, watch, "left", 2)
+    ended = maker.end()
+    need(ended[0] == 0 and not ended[2], f"hold ended with {ended}")
+    check_change(shown, watch, "left", 1)
+    check_change(shown, watch, "removed", 1)
+    status, rest, err = watch.end(interrupt=True)
+    need(status == -signal.SIGINT and not rest, f"watch ended with {status}, {rest}: {err}")
+    check_listed(shown, {}, "after all have ended")
+    check_log(shown, first, follower)
+    check_damaged(shown)
+    return None
