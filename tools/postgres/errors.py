@@ -111,15 +111,15 @@ def psql_refused(site, room):
     """No psql, one that is too old, one that doesn't run."""
     folder = room / "bin"
     folder.mkdir()
-    for name in ("bash", "dirname", "readlink", "env"):
+    for name in ("bash", "dirname", "readlink", "env", "grep"):
         (folder / name).symlink_to(shutil.which(name))
-    later = "install PostgreSQL's client, of version 15 or later"
+    later = "install PostgreSQL's client of version 15 or later"
     check_launched(site, "no psql", ["list"], ["no psql", later], PATH=str(folder))
-    for text, wanted in (("echo 'psql (PostgreSQL) 14.9'", "psql is of version 14; install version 15 or later"),
-                         ("echo psql", "psql tells no version"), ("exit 1", "psql doesn't run")):
+    for text, wanted in (("echo 140009", ["an old version", later]), ("echo :VERSION_NUM", ["an old version", later]),
+                         ("exit 1", ["psql failed"])):
         (folder / "psql").write_text(f"#!/bin/sh\n{text}\n")
         (folder / "psql").chmod(0o755)
-        check_launched(site, text, ["list"], [wanted], PATH=str(folder))
+        check_launched(site, text, ["list"], wanted, PATH=str(folder))
     check_launched(site, "no program", ["list"], ["there is no program /nowhere/x", "WULAMERON"], WULAMERON="/nowhere/x")
 
 

@@ -44,7 +44,7 @@ class Terminal:
 
     def __init__(self, front, folder, environment):
         folder.mkdir()
-        environment |= {"HOME": str(folder), "PATH": f"{folder}/.local/bin:{environment['PATH']}", "LC_ALL": "C.UTF-8"}
+        environment |= {"HOME": str(folder), "PATH": f"{folder}/.local/bin:{os.environ['PATH']}", "LC_ALL": "C.UTF-8"}
         environment.pop("WULAMERON", None)
         streams = {"stdin": subprocess.PIPE, "stdout": subprocess.PIPE, "stderr": subprocess.STDOUT}
         self.process = subprocess.Popen([*front, "bash"], cwd=TOP, env=environment, text=True, start_new_session=True,

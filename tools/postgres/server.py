@@ -133,11 +133,13 @@ class Server:
         """By what a client's library knows this server."""
         kept = {name: value for name, value in os.environ.items() if not name.startswith("PG")}
         kept |= {"PGHOST": str(self.folder), "PGPORT": str(self.port), "PGUSER": role, "PGDATABASE": database}
+        # What Debian has before psql, to choose a version, takes longer than psql.
+        kept["PATH"] = f"{self.programs}:{kept['PATH']}"
         return kept | {"PGCONNECT_TIMEOUT": "10"} | others
 
     def ask(self, text, role=OWNER, database=DATABASE):
         """Has psql ask one thing in a session of its own."""
-        words = ["psql", "-XAtqw", "-v", "ON_ERROR_STOP=1", "-c", text]
+        words = [self.programs / "psql", "-XAtqw", "-v", "ON_ERROR_STOP=1", "-c", text]
         return subprocess.run(words, env=self.environment(role, database), capture_output=True, text=True,
                               timeout=SECONDS)
 
@@ -151,7 +153,7 @@ class Server:
     def script(self, database, *lines):
         """Has psql run some lines as the owner."""
         text = "".join(line if line.startswith("\\") else f"{line};" for line in (f"{one}\n" for one in lines))
-        ran = subprocess.run(["psql", "-Xqw", "-v", "ON_ERROR_STOP=1"], input=text, text=True, timeout=SECONDS,
+        ran = subprocess.run([self.programs / "psql", "-Xqw", "-v", "ON_ERROR_STOP=1"], input=text, text=True, timeout=SECONDS,
                              env=self.environment(OWNER, database), capture_output=True)
         if ran.returncode:
             raise RuntimeError(ran.stderr)
