@@ -13,7 +13,7 @@ LOG = "commands"
 
 
 class Shown:
-    """The site, as the commands over files know theirs: their words begin with the launcher, and their paths are names."""
+    """The site, as the commands over files know theirs: words begin with the launcher, and paths are names."""
 
     program = str(LAUNCHER)
 

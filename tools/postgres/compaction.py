@@ -13,9 +13,10 @@ def churn(process, pairs):
     wrong = []
     for begin in range(0, pairs, 20):
         numbers = range(begin, begin + 20)
-        process.say(*(line for number in numbers for line in (f"event create {process.node} 0 c/{process.node}/{number % 3}", "close 0")))
-        for _ in numbers:
-            wrong += [reply for reply in (process.hear(), process.hear()) if reply and not reply.startswith(("ok 0 ", "closed 0"))]
+        create = f"event create {process.node} 0 c/{process.node}"
+        process.say(*(line for number in numbers for line in (f"{create}/{number % 3}", "close 0")))
+        replies = [process.hear() for _ in range(2 * len(numbers))]
+        wrong += [reply for reply in replies if not reply or not reply.startswith(("ok 0 ", "closed 0"))]
     return wrong
 
 
@@ -41,7 +42,8 @@ def compaction(site):
     checks.need(generation >= 1 and count <= MOST, f"after {PAIRS} creates: generation {generation} of {count} rows")
     reply = idle.reply("pubsub open 1 7 kept/1")
     checks.need(reply and reply.startswith("ok 7 "), f"of who did nothing meanwhile: {reply}")
-    threads = [threading.Thread(target=lambda one=one: checks.same(churn(one, PAIRS_AT_ONCE), [], "replies")) for one in (idle, busy, other)]
+    work = lambda one: checks.same(churn(one, PAIRS_AT_ONCE), [], "replies while three are at work")
+    threads = [threading.Thread(target=work, args=[one]) for one in (idle, busy, other)]
     for thread in threads:
         thread.start()
     for thread in threads:

@@ -84,13 +84,18 @@ def stopped(site, owner):
     check_rest(site, name, "after a stop within a hold", (1, 2))
 
 
+def terminate(owner, pid):
+    """Has the server end its process for a session."""
+    owner.call(f"select pg_terminate_backend({pid})")
+
+
 def killed(site, owner):
     """psql is killed, and the server's process for a session is ended, while a process is at work."""
     checks, name = site.checks, "killed"
     ways = {
         "psql killed": lambda process: os.kill(process.psql(), signal.SIGKILL),
         "psql ended": lambda process: os.kill(process.psql(), signal.SIGTERM),
-        "its session ended": lambda process: owner.call(f"select pg_terminate_backend({session_of(owner, process)[2]})"),
+        "its session ended": lambda process: terminate(owner, session_of(owner, process)[2]),
     }
     for what, way in ways.items():
         process = begin(site, name, 1)
@@ -103,11 +108,11 @@ def killed(site, owner):
 
 
 def within_commit(site, owner):
-    """A commit that waits for a replica, and then is told to wait no more: its entry is in the table, and its process ends."""
+    """A commit that waits for a replica, and then is told to wait no more: its entry is there, and its process ends."""
     checks, server = site.checks, site.server
     ways = {
         "canceled": lambda pid: owner.call(f"select pg_cancel_backend({pid})"),
-        "terminated": lambda pid: owner.call(f"select pg_terminate_backend({pid})"),
+        "terminated": lambda pid: terminate(owner, pid),
         "killed": lambda pid: os.kill(int(pid), signal.SIGKILL),
     }
     for what, way in ways.items():

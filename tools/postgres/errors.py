@@ -17,7 +17,7 @@ from postgres.site import FAULT, Ran
 WRONG_ARGUMENTS = 2
 # What is told of it that isn't the program's own, by what is tried.
 NO_SERVER = "start the server, or name another by -h and -p"
-PASSWORD = "each user of this machine sees a password in arguments; write it into a password file (~/.pgpass or PGPASSFILE)"
+PASSWORD = "each user of this machine sees a password in arguments; write it into a password file ("
 # How a session begins without psql, and how many are kept for superusers.
 PROTOCOL, BEGIN, RESERVED = 196608, b"user\0lamps\0database\0logs\0\0", 3
 # A program that tells with which words it is run, and what its session is.
@@ -72,10 +72,11 @@ def told_program(site, room):
     ways = [["-d", DATABASE], [f"-d{DATABASE}"], [f"--dbname={DATABASE}"], ["--dbname", f"dbname={DATABASE}"],
             ["-d", f"postgresql:///{DATABASE}"], ["-d", f"postgres:///{DATABASE}?user=lamps"], [],
             ["-h", str(server.folder), "-p", str(server.port), "-U", "lamps", "-w"],
-            ["-h", "127.0.0.1", f"--port={server.port}", "--username=lamps", f"--dbname=host=localhost dbname={DATABASE}"]]
+            ["-h", "here", f"--port={server.port}", "--username=lamps", f"--dbname=host=localhost dbname={DATABASE}"]]
     for words in ways:
         ran = launched(site, *words, "list", "--at", "postgres:x", WULAMERON=str(program))
-        fine = ran.status == 0 and re.fullmatch(r"list --psql /proc/self/fd/\d+:/proc/self/fd/\d+ --at postgres:x", ran.out[0])
+        told = r"list --psql /proc/self/fd/\d+:/proc/self/fd/\d+ --at postgres:x"
+        fine = ran.status == 0 and re.fullmatch(told, ran.out[0])
         checks.need(fine and ran.out[1:] == [f"{DATABASE}|lamps|wulameron", "done"], f"by {words}: {ran}")
     shutil.copy(site.words("x", "x")[0], room / "wulameron-postgres")
     shutil.copy(program, room / "wulameron")
@@ -168,9 +169,9 @@ def all_taken(site):
     until(lambda: int(server.told(others)[0]) < RESERVED)
 
 
-def check_program(site, what, name, wanted, command=("run", "--node", "1"), lines=("event create 1 0 lamps",), **others):
+def check_program(site, what, name, wanted, command=("run", "--node", "1"), **others):
     """The program refuses in a line on this log, with these words in it, in order."""
-    ran = site.ran(command[0], name, *command[1:], lines=lines, **others)
+    ran = site.ran(command[0], name, *command[1:], lines=["event create 1 0 lamps"], **others)
     fine = ran.status == FAULT and ran.err.count("\n") >= 1
     fine = fine and re.match(f"wulameron: postgres:{re.escape(name)}: .*" + ".*".join(map(re.escape, wanted)), ran.err)
     site.checks.need(fine, f"{what}: {ran}")
@@ -190,7 +191,7 @@ def program_refused(site):
     version(site)
     busy(site)
     if not site.is_plain:
-        check_program(site, "no log", "nothing", ["the database has no log of this name; "], command=("list",), lines=())
+        check_program(site, "no log", "nothing", ["the database has no log of this name; "], command=("list",))
         for name in ("", "a b", "-a", "a" * 64, "a'b", "a\nb"):
             ran = site.ran("run", name, "--node", "1")
             fine = ran.status in (WRONG_ARGUMENTS, FAULT) and "is no name of a log" in ran.err
@@ -203,8 +204,9 @@ def version(site):
     server.told(f"create database another template {DATABASE}")
     body = server.told("select prosrc from pg_proc where proname = 'opened'", database="another")
     text = "\n".join(body).replace("concat_ws(' ', 1,", "concat_ws(' ', 2,")
-    server.told(f"create or replace function wulameron.opened(name text, makes boolean) returns setof text language plpgsql "
-                f"security definer set search_path = pg_catalog, pg_temp as $$ {text} $$", database="another")
+    head = "create or replace function wulameron.opened(name text, makes boolean) returns setof text language plpgsql"
+    tail = f"security definer set search_path = pg_catalog, pg_temp as $$ {text} $$"
+    server.told(f"{head} {tail}", database="another")
     check_program(site, "another version", "errors", ["the tables are of version 2; "], PGDATABASE="another")
 
 
@@ -214,7 +216,8 @@ def busy(site):
     log = Log(with_gate, "errors")
     with_gate.call("set idle_in_transaction_session_timeout = 0")
     log.hold()
-    ran = site.ran("run", "errors", "--node", "1", "--wait", "200", "--no-clean", lines=["event create 1 0 lamps", "close 0"])
+    lines = ["event create 1 0 lamps", "close 0"]
+    ran = site.ran("run", "errors", "--node", "1", "--wait", "200", "--no-clean", lines=lines)
     fine = ran.out[:1] == ["EventCreateError::InternalFailure"] and "others hold the log" in ran.err
     site.checks.need(fine, f"a log that another holds: {ran}")
     with_gate.say(texts.letting_go(log.log))

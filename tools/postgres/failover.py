@@ -95,6 +95,7 @@ def asynchronous(site, server, other):
     beyond, seen = [], []
 
     def strike(processes):
+        """Has the replica get no more, and take over when it lacks some."""
         until(lambda: any(row for row in other.told(f"select wulameron.opened('{name}', false)")))
         other.set("primary_conninfo", "host=/nowhere")
         until(lambda: not server.told("select * from pg_stat_replication"))

@@ -98,7 +98,8 @@ class Far:
 
     def living(self, name, node):
         """A process there."""
-        return self.site.living_of(self.words("run", name, "--node", str(node), "--wait", "10000"), name, node, self.environment())
+        words = self.words("run", name, "--node", str(node), "--wait", "10000")
+        return self.site.living_of(words, name, node, self.environment())
 
 
 def meanwhile(near, name, what):

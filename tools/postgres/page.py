@@ -131,4 +131,6 @@ def page(site):
     finally:
         if network:
             network.__exit__()
-    return None if network else f"{site.checks.counts['checks']} checks on one machine, since no network namespace can be made"
+    checks = site.checks
+    told = f"{checks.counts['checks']} checks, {len(checks.wrong)} wrong, on one machine, since no network namespace"
+    return None if network else f"{told} can be made"

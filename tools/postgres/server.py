@@ -114,7 +114,8 @@ class Server:
                      "--clear-groups", *words]
         user = {} if self.namespace else as_ordinary()
         with open(self.log, "ab") as log:
-            self.process = subprocess.Popen(words, cwd=self.folder, stdout=log, stderr=log, start_new_session=True, **user)
+            streams = {"stdout": log, "stderr": log, "start_new_session": True}
+            self.process = subprocess.Popen(words, cwd=self.folder, **streams, **user)
         if not until(self.answers):
             raise RuntimeError(f"the server doesn't start: {self.log.read_text()[-2000:]}")
         return self

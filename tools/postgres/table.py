@@ -105,7 +105,8 @@ def after_snapshot(checks, table, entries, what):
         if not same_worlds(table.world, world):
             return world, count
         world.follow(entry)
-    checks.need(not same_worlds(table.world, world), f"{what}: a snapshot isn't what stood: {same_worlds(table.world, world)}")
+    why = same_worlds(table.world, world)
+    checks.need(not why, f"{what}: a snapshot isn't what stood: {why}")
     return world, len(entries)
 
 
