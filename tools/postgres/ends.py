@@ -36,14 +36,15 @@ def begin(site, name, node):
     return process
 
 
-def stop_within_hold(process, owner):
-    """Stops a process at a moment at which it holds; tells whether that came about."""
+def stop_within_hold(process, owner, pid=None):
+    """Stops a process, or its psql, at a moment at which it holds; tells whether that came about."""
+    pid = pid or process.pid
     for _ in range(TRIES):
-        os.kill(process.pid, signal.SIGSTOP)
+        os.kill(pid, signal.SIGSTOP)
         found = until(lambda: settled(session_of(owner, process)), pause=0.001)
         if found[0] == "idle in transaction" and found[3] == "t":
             return True
-        os.kill(process.pid, signal.SIGCONT)
+        os.kill(pid, signal.SIGCONT)
         time.sleep(0.002)
     return False
 
@@ -64,12 +65,13 @@ def check_rest(site, name, what, nodes):
         site.checks.need(not table.world.remains(), f"{what}: in the end there is {table.world.remains()}")
 
 
-def stopped(site, owner):
-    """A process that is stopped while it holds: the server ends its session, and others wait no longer than that."""
-    checks, name = site.checks, "stopped"
+def stopped(site, owner, is_psql):
+    """A process, or its psql, that is stopped while it holds: the server ends its session, and others wait no longer."""
+    checks, name = site.checks, f"stopped-{is_psql}".lower()
     process, other = begin(site, name, 1), begin(site, name, 2)
     work(process)
-    if not checks.need(stop_within_hold(process, owner), "a process wasn't stopped within a hold"):
+    pid = process.psql() if is_psql else process.pid
+    if not checks.need(stop_within_hold(process, owner, pid), "a process wasn't stopped within a hold"):
         return
     began = time.monotonic()
     reply = other.reply("event create 2 0 meanwhile")
@@ -77,7 +79,7 @@ def stopped(site, owner):
     checks.need(reply and reply.startswith("ok 0 "), f"while another is stopped within a hold: {reply}")
     checks.need(waited < WAITED, f"while another is stopped within a hold, a call took {waited:.1f} seconds")
     checks.same(session_of(owner, process), None, "the session of a process that is stopped within a hold")
-    os.kill(process.pid, signal.SIGCONT)
+    os.kill(pid, signal.SIGCONT)
     check_over(checks, process.end(), name, "a process that was stopped within a hold")
     ran = other.end()
     checks.need(ran.status == 0 and not ran.err, f"the other process: {ran}")
@@ -162,14 +164,15 @@ class Ended(Process):
         self.live()
 
     def settle(self, table):
-        """It may be anywhere."""
-        self.began, self.struck, self.ended = 1, table.whole, table.whole
+        """It may be anywhere, and others may have cleaned up for it since its session ended."""
+        self.began, self.struck, self.ended = 1, 1, table.whole
 
 
 def ends(site):
     """All of these."""
     owner = Client(site.server.environment(OWNER))
-    stopped(site, owner)
+    stopped(site, owner, False)
+    stopped(site, owner, True)
     killed(site, owner)
     within_commit(site, owner)
     restarted(site, FAST, "a fast restart")

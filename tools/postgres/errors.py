@@ -3,6 +3,7 @@ import contextlib
 import os
 import re
 import shutil
+import signal
 import socket
 import struct
 import subprocess
@@ -20,6 +21,7 @@ NO_SERVER = "start the server, or name another by -h and -p"
 PASSWORD = "each user of this machine sees a password in arguments; write it into a password file ("
 # How a session begins without psql, and how many are kept for superusers.
 PROTOCOL, BEGIN, RESERVED = 196608, b"user\0lamps\0database\0logs\0\0", 3
+AGAIN = "try again in a moment"
 # A program that tells with which words it is run, and what its session is.
 TELLING = """#!/bin/sh
 echo "$@"
@@ -90,6 +92,7 @@ def told_program(site, room):
     checks.need(ran.status == 7, f"a program that ends at once: {ran}")
     left = until(lambda: not children_left(room))
     checks.need(left, f"a program that ended at once has left {children_left(room)}")
+    check_launched(site, "no folder for the pipes", ["list"], ["pipes", "/nowhere", "TMPDIR"], TMPDIR="/nowhere")
     ran = launched(site, "list", "--help", WULAMERON=str(program), PGHOST="/nowhere")
     checks.same(ran, Ran(0, ["list --help"], ""), "a help without a server")
 
@@ -108,6 +111,11 @@ def children_left(room):
     return found
 
 
+def told_by_psql(text):
+    """What psql does when the server tells it this."""
+    return f"echo 'psql: error: connection to server failed: FATAL:  {text}' >&2; exit 2"
+
+
 def psql_refused(site, room):
     """No psql, one that is too old, one that doesn't run."""
     folder = room / "bin"
@@ -117,7 +125,8 @@ def psql_refused(site, room):
     later = "install PostgreSQL's client of version 15 or later"
     check_launched(site, "no psql", ["list"], ["no psql", later], PATH=str(folder))
     for text, wanted in (("echo 140009", ["an old version", later]), ("echo :VERSION_NUM", ["an old version", later]),
-                         ("exit 1", ["psql failed"])):
+                         ("exit 1", ["psql failed"]), (told_by_psql("the database system is starting up"), [AGAIN]),
+                         (told_by_psql("sorry, too many clients already"), ["max_connections"])):
         (folder / "psql").write_text(f"#!/bin/sh\n{text}\n")
         (folder / "psql").chmod(0o755)
         check_launched(site, text, ["list"], wanted, PATH=str(folder))
@@ -167,6 +176,18 @@ def all_taken(site):
         until(lambda: int(server.told(others)[0]) >= count - RESERVED)
         check_launched(site, "too many sessions", ["list"], ["connection slots are reserved", "max_connections"])
     until(lambda: int(server.told(others)[0]) < RESERVED)
+
+
+def shutting_down(site):
+    """A server that waits for its last session to end."""
+    last = Client(site.server.environment())
+    last.call("select 1")
+    site.server.process.send_signal(signal.SIGTERM)
+    until(lambda: site.server.ask("select 1").returncode)
+    check_launched(site, "a server that shuts down", ["list"], ["the database system is shutting down", AGAIN])
+    last.kill()
+    site.server.process.wait(SECONDS)
+    site.server.start()
 
 
 def check_program(site, what, name, wanted, command=("run", "--node", "1"), **others):
@@ -236,3 +257,4 @@ def errors(site):
     server_refused(site, room)
     all_taken(site)
     program_refused(site)
+    shutting_down(site)
