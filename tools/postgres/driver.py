@@ -1,4 +1,5 @@
 """A handle of a log over `psql` and two pipes: the plain driver, a second writer and reader beside the crate."""
+import hashlib
 import os
 import signal
 import subprocess
@@ -172,12 +173,18 @@ class Log:
         """Makes the next generation of these entries, with the mark before them."""
         mark, *entries = entries
         ask, log, after = self.session.told, self.log, self.generation + 1
-        ask(texts.moving(log, self.generation, self.number + 1, mark), "moved")
+        told = ask(texts.moving(log, self.generation, self.number + 1, mark), "moved")
+        chain = hashlib.sha256(bytes.fromhex(self.chain) + mark).hexdigest()
+        if told != [f"{self.number + 1} {chain}", f"0 {chain}"]:
+            raise Other([*told, "moved 00000"])
         for begin in range(0, len(entries), PIECE):
             part = list(enumerate(entries[begin : begin + PIECE], begin + 1))
             told = ask(texts.copying(log, after, part), "copied")
-            assert [line.split(" ")[::2] for line in told] == [[str(number), data.hex()] for number, data in part]
-        assert ask(texts.going_on(log, after, len(entries)), "went") == ["t"]
+            if [line.split(" ")[::2] for line in told] != [[str(number), data.hex()] for number, data in part]:
+                raise Other([*told, "copied 00000"])
+        told = ask(texts.going_on(log, after, len(entries)), "went")
+        if told != ["t"]:
+            raise Other([*told, "went 00000"])
         self.rejoin()
 
     def rejoin(self):

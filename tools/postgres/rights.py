@@ -176,7 +176,7 @@ def generations(checks, server):
 
 def refused_generations(log):
     """In which ways a generation doesn't become the current one."""
-    moved = texts.moving(log, 1, 4, b"mark").split(";\n")[0]
+    moved = texts.moving(log, 1, 4, b"mark").split(" returning ")[0]
     copied = f"{texts.INSERT}{texts.row(log, 2, 1, b'a')}"
     behind = f"{texts.INSERT}{texts.row(log, 1, 5, b'x')}"
     yield "without the gate", [moved], f"select wulameron.go_on({log}, 2, 0)"

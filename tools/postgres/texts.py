@@ -65,14 +65,16 @@ def pausing(log):
 
 def moving(log, generation, number, mark):
     """The mark, and row 0 of the next generation."""
-    return f"{INSERT}{row(log, generation, number, mark)}, ({log}, {generation + 1}, 0, '');\n\\echo moved :SQLSTATE\n"
+    cells = "returning seq || ' ' || encode(chain, 'hex')"
+    rows = f"{row(log, generation, number, mark)}, ({log}, {generation + 1}, 0, '')"
+    return f"{INSERT}{rows} {cells};\n\\echo moved :SQLSTATE\n"
 
 
 def copying(log, generation, rows):
     """Some entries of the next generation."""
-    cells = f"returning {CELLS}encode(bytes, 'hex')"
-    values = ", ".join(row(log, generation, number, data) for number, data in rows)
-    return f"{INSERT}{values} {cells};\n\\echo copied :SQLSTATE\n"
+    cells = f"returning {CELLS}encode(bytes, 'hex')\\; "
+    inserts = "".join(f"{INSERT}{row(log, generation, number, data)} {cells}" for number, data in rows)
+    return f"{inserts}select 1 where false;\n\\echo copied :SQLSTATE\n"
 
 
 def going_on(log, generation, count):
