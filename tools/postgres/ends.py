@@ -7,7 +7,7 @@ import time
 from postgres.checks import until
 from postgres.driver import Client
 from postgres.server import FAST, IMMEDIATE, OWNER
-from postgres.site import check_over, session_of
+from postgres.site import check_over, is_refused, session_of
 from postgres.storms import Process, afterwards, begun, replayed, replied
 from postgres.table import replay
 
@@ -160,8 +160,10 @@ class Ended(Process):
     """A process of a storm whose session is ended by others, at no known place in the log."""
 
     def run(self):
-        """Runs the process to its end."""
+        """Runs the process to its end. The call in which it found out may have had a reply."""
         self.live()
+        if self.replies and is_refused(self.replies[-1]):
+            self.replies.pop()
 
     def settle(self, table):
         """It may be anywhere, and others may have cleaned up for it since its session ended."""

@@ -12,7 +12,7 @@ from postgres import texts
 from postgres.checks import SECONDS, until
 from postgres.driver import Client, Log
 from postgres.server import DATABASE, OWNER, free_port
-from postgres.site import FAULT, Ran
+from postgres.site import FAULT, Ran, is_refused
 
 # How the arguments are refused.
 WRONG_ARGUMENTS = 2
@@ -232,19 +232,28 @@ def version(site):
 
 
 def busy(site):
-    """Another holds the log for longer than is waited."""
-    with_gate = Client(site.server.environment(OWNER))
-    log = Log(with_gate, "errors")
-    with_gate.call("set idle_in_transaction_session_timeout = 0")
+    """Another holds the log for longer than is waited: calls are refused, and granted when the log is free."""
+    checks, name = site.checks, "errors"
+    words = site.words("run", name, "--node", "1", "--wait", "200")
+    process = site.living_of(words, name, 1, site.environment())
+    checks.need((process.reply("event create 1 0 lamps") or "").startswith("ok 0 "), "a create before others hold")
+    other = Client(site.server.environment(OWNER))
+    log = Log(other, name)
+    other.call("set idle_in_transaction_session_timeout = 0")
     log.hold()
-    lines = ["event create 1 0 lamps", "close 0"]
-    ran = site.ran("run", "errors", "--node", "1", "--wait", "200", "--no-clean", lines=lines)
-    fine = ran.out[:1] == ["EventCreateError::InternalFailure"] and "others hold the log" in ran.err
-    site.checks.need(fine, f"a log that another holds: {ran}")
-    with_gate.say(texts.letting_go(log.log))
-    with_gate.kill()
-    ran = site.ran("run", "errors", "--node", "1", lines=["event create 1 0 lamps"])
-    site.checks.need(ran.status == 0 and ran.out[0].startswith("ok 0 "), f"a log that another held: {ran}")
+    for line in ("close 0", "event create 1 1 more"):
+        reply = process.reply(line)
+        checks.need(reply and is_refused(reply), f"to {line!r} while another holds the log: {reply}")
+    ran = site.ran("run", name, "--node", "2", "--wait", "200", lines=["event create 2 0 lamps"])
+    fine = "others hold the log" in ran.err and (ran.status == FAULT or is_refused(ran.out[0]))
+    checks.need(fine, f"a process that begins while another holds the log: {ran}")
+    other.say(texts.letting_go(log.log))
+    for line, wanted in (("close 0", "closed 0"), ("event create 1 1 more", "ok 1 ")):
+        reply = process.reply(line)
+        checks.need(reply and reply.startswith(wanted), f"to {line!r} when the log is free again: {reply}")
+    other.kill()
+    ran = process.end()
+    checks.need(ran.status == 0 and "others hold the log" in ran.err, f"a process that another made wait: {ran}")
 
 
 def errors(site):

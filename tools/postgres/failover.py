@@ -5,7 +5,7 @@ from postgres.checks import until
 from postgres.driver import Client, Log, Other
 from postgres.ends import LEAST, LINES, Ended, check_rest
 from postgres.server import IMMEDIATE, Server, replica
-from postgres.site import check_over
+from postgres.site import check_over, is_refused
 from postgres.storms import afterwards, begun, replied, replayed
 from postgres.table import read_rows, replay
 
@@ -136,7 +136,7 @@ def gone_back(site, server):
     server.told("alter table wulameron.entries enable trigger all")
     for node, one in ((1, process), (2, other)):
         reply = one.reply(f"event create {node} 1 more")
-        checks.need(not reply or reply.endswith("InternalFailure"), f"a log that went back: {reply}")
+        checks.need(is_refused(reply), f"a log that went back: {reply}")
         check_over(checks, one.end(), name, f"node {node} at a log that went back")
     checks.need(replay(checks, server, name, "a log that went back"), "a log that went back can't be read")
     check_rest(At(site, server), name, "at a log that went back", (1, 2))

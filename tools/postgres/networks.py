@@ -10,7 +10,7 @@ from postgres.checks import until
 from postgres.driver import Client
 from postgres.ends import IN_COMMIT, begin, check_rest, stop_within_hold, work
 from postgres.server import OWNER, Server
-from postgres.site import check_over, session_of
+from postgres.site import check_over, is_refused, session_of
 from postgres.table import replay
 
 # How long a cut may be that nobody notices, and how long others wait for a gate that is beyond a cut. The server ends a
@@ -134,7 +134,8 @@ def cut_within(near, far, owner):
     far.machine.mend(far.server.port)
     os.kill(holding.pid, signal.SIGCONT)
     check_over(checks, holding.end(), "cut-hold", "a process that was cut off within a hold")
-    checks.same(idle.reply("event create 2 0 late"), None, "the reply to who was cut off")
+    reply = idle.reply("event create 2 0 late")
+    checks.need(is_refused(reply), f"the reply to who was cut off: {reply}")
     check_over(checks, idle.end(), "cut-idle", "a process that was cut off")
 
 

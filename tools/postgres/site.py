@@ -7,6 +7,7 @@ import subprocess
 import threading
 from dataclasses import dataclass
 
+from logs.whole_calls import REFUSED
 from postgres.checks import SECONDS
 from postgres.server import IMMEDIATE, LAUNCHER, Server
 
@@ -94,6 +95,11 @@ class Site:
     def living_of(self, words, name, node, environment):
         """The same by these words."""
         return Living(self.checks, words, environment | {"PGAPPNAME": f"{name}-{node}"})
+
+
+def is_refused(reply):
+    """Whether a call was refused since its log refused; a process that ends may have no reply."""
+    return not reply or any(word in reply for word in REFUSED)
 
 
 def session_of(owner, process):
