@@ -4,8 +4,8 @@ import threading
 import time
 from collections import Counter
 
-# How long anything may take where nothing else is said.
-SECONDS = 30
+# How long anything may take where nothing else is said, also on a slow machine that does other things beside.
+SECONDS = 60
 
 
 class Checks:

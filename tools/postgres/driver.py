@@ -107,7 +107,7 @@ def of_pipes(paths):
 class Log:
     """A handle of a log: as far as it has read, and whether it holds it."""
 
-    def __init__(self, session, name, makes=True, patience=500):
+    def __init__(self, session, name, makes=True, patience=30000):
         self.session, self.name = session, name
         told = session.told(texts.opening(name, makes, patience), "opened")
         if not told:

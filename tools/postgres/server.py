@@ -1,4 +1,5 @@
-"""A server of one's own: in a folder of its own, of an ordinary user, at a socket and at addresses with a free port."""
+"""A server of one's own: in a folder of its own, of an ordinary user, at a socket there, and at addresses with a free
+port where some are asked for."""
 import os
 import pathlib
 import pwd
@@ -19,6 +20,14 @@ ORDINARY = "nobody"
 # Nothing here tests what a crash of the machine leaves, so nothing waits for the disk.
 SETTINGS = {"fsync": "off", "shared_buffers": "'32MB'", "max_connections": "60", "log_statement": "'none'"}
 FAST, IMMEDIATE = signal.SIGINT, signal.SIGQUIT
+# The port of a server at its socket alone, where no other server can have it.
+PORT = 5432
+# How often a server is started at another port, where one was taken since it was found free.
+PORTS = 5
+# How long a client tries for a session, and how often at most a server is asked about its state.
+CONNECT, PAUSE = 30, 0.1
+# A small commit, and what a session waits for that waits for a replica within one.
+COMMIT, IN_COMMIT = "select pg_logical_emit_message(true, '', '')", "SyncRep"
 
 
 def binaries():
@@ -56,8 +65,9 @@ def as_ordinary():
 class Server:
     """A server that is started, and ended with its folder's user."""
 
-    def __init__(self, programs, folder, addresses="127.0.0.1", networks=(), namespace=None, **settings):
-        self.programs, self.folder, self.data, self.port = programs, folder, folder / "data", free_port()
+    def __init__(self, programs, folder, addresses="", networks=(), namespace=None, **settings):
+        self.programs, self.folder, self.data = programs, folder, folder / "data"
+        self.port = free_port() if addresses else PORT
         self.addresses, self.settings, self.namespace = addresses, SETTINGS | settings, namespace
         self.networks = networks
         self.process, self.log = None, folder / "server.log"
@@ -78,7 +88,7 @@ class Server:
                  "--locale", "C", "--no-sync", "--no-instructions")
         self.admit(*(f"host all all {network} trust" for network in self.networks),
                    *(f"host replication all {network} trust" for network in self.networks))
-        self.start()
+        self.start_anywhere()
         self.script("postgres", f"create database {DATABASE}")
         self.script(DATABASE, f"\\i {SCHEMA}", f"create role {ROLE} login in role wulameron_node")
         return self
@@ -101,8 +111,51 @@ class Server:
         self.settings[name] = f"'{value}'"
         self.write_settings()
         self.process.send_signal(signal.SIGHUP)
-        if not until(lambda: self.told(f"show {name}") == [value]):
+        if not until(lambda: self.told(f"show {name}") == [value], pause=PAUSE):
             raise RuntimeError(f"{name} doesn't become {value}")
+
+    def reload(self):
+        """Has it read its files again, and waits until each session that begins has what they say."""
+        query = "select pg_conf_load_time()"
+        before = self.told(query)
+        self.process.send_signal(signal.SIGHUP)
+        if not until(lambda: self.told(query) != before, pause=PAUSE):
+            raise RuntimeError("the server doesn't read its files again")
+
+    def delay_commits(self):
+        """Has each commit wait for a replica that isn't there. One is tried, since a session that shows the setting isn't
+        who heeds it."""
+        self.set("synchronous_standby_names", "none")
+        state = "select pid from pg_stat_activity where application_name = 'delayed' and wait_event = '{}'"
+        words = [self.programs / "psql", "-XAtqw", "-c", COMMIT]
+        environment = self.environment(OWNER, PGAPPNAME="delayed")
+        for _ in range(SECONDS):
+            with subprocess.Popen(words, env=environment, stdout=subprocess.DEVNULL, stderr=subprocess.DEVNULL) as tried:
+                found = until(lambda: tried.poll() is not None or self.told(state.format(IN_COMMIT)), pause=PAUSE)
+                if isinstance(found, list) and found:
+                    self.told(f"select pg_terminate_backend({found[0]})")
+                    return
+        raise RuntimeError("commits don't wait")
+
+    def wait_gone(self, pids):
+        """Waits until these sessions have ended, with all that they had; tells whether they have."""
+        query = f"select pid from pg_stat_activity where pid in ({', '.join(map(str, pids))})"
+        return until(lambda: not self.told(query), pause=PAUSE)
+
+    def wait_dead(self, name):
+        """Waits until each node of a log is dead, as those are whose processes have ended; gives the ones that aren't."""
+        query = f"select * from wulameron.nodes('{name}') as one where one not like '% dead'"
+        until(lambda: not self.told(query), pause=PAUSE)
+        return self.told(query)
+
+    def processes(self):
+        """Its own processes, which are others when it has begun anew; nothing while it lets no session begin."""
+        return self.ask("select pid from pg_stat_activity where backend_type = 'checkpointer'").stdout
+
+    def reason(self, pid):
+        """Why it ended a session, as its log has it; nothing where it has nothing of that."""
+        lines = [line for line in self.log.read_text(errors="replace").splitlines() if f" [{pid}] FATAL: " in line]
+        return lines[-1].partition("FATAL: ")[2].strip() if lines else None
 
     def start(self):
         """Starts it, and waits until it answers."""
@@ -116,9 +169,21 @@ class Server:
         with open(self.log, "ab") as log:
             streams = {"stdout": log, "stderr": log, "start_new_session": True}
             self.process = subprocess.Popen(words, cwd=self.folder, **streams, **user)
-        if not until(self.answers):
+        until(lambda: self.process.poll() is not None or self.answers(), pause=PAUSE)
+        if self.process.poll() is not None or not self.answers():
             raise RuntimeError(f"the server doesn't start: {self.log.read_text()[-2000:]}")
         return self
+
+    def start_anywhere(self):
+        """Starts it, at another port where another program has taken this one meanwhile."""
+        for left in reversed(range(PORTS)):
+            try:
+                return self.start()
+            except RuntimeError as error:
+                if not left or "Address already in use" not in str(error):
+                    raise
+            self.port = free_port()
+        raise AssertionError
 
     def answers(self):
         """Whether it lets a session begin."""
@@ -136,7 +201,7 @@ class Server:
         kept |= {"PGHOST": str(self.folder), "PGPORT": str(self.port), "PGUSER": role, "PGDATABASE": database}
         # What Debian has before psql, to choose a version, takes longer than psql.
         kept["PATH"] = f"{self.programs}:{kept['PATH']}"
-        return kept | {"PGCONNECT_TIMEOUT": "10"} | others
+        return kept | {"PGCONNECT_TIMEOUT": str(CONNECT)} | others
 
     def ask(self, text, role=OWNER, database=DATABASE):
         """Has psql ask one thing in a session of its own."""

@@ -13,12 +13,13 @@ from postgres.server import IMMEDIATE, LAUNCHER, Server
 
 # The plain driver, which is a program of the same words.
 PLAIN = pathlib.Path(__file__).resolve().parent / "plain"
-PATIENCE = 10000
+# For how many milliseconds a call waits for a log that others hold.
+PATIENCE = 30000
 # How a program ends that can't use its log any more.
 FAULT = 3
 # What another session has, and whether it does nothing meanwhile, by the name that it goes under.
 AT_WORK = """select a.state, a.wait_event, a.pid, exists (select from pg_locks l where l.pid = a.pid
-    and locktype = 'advisory' and classid = 'wulameron.logs'::regclass and granted)
+    and locktype = 'advisory' and classid = 'wulameron.logs'::regclass and granted), a.state_change
     from pg_stat_activity a where application_name = '{}' and backend_type = 'client backend'"""
 
 
@@ -56,7 +57,7 @@ class Site:
         return server
 
     def end(self):
-        """Ends all servers."""
+        """Ends all servers, of which none is begun any more."""
         for server in self.servers:
             server.stop(IMMEDIATE)
 
@@ -104,7 +105,7 @@ def is_refused(reply):
 
 def session_of(owner, process):
     """What the session of a process is at, as the owner sees it: its state, what it waits for, the server's process for
-    it, and whether it has a gate; nothing where there is none."""
+    it, whether it has a gate, and since when; nothing where there is none."""
     told = owner.call(AT_WORK.format(process.title))
     return told[0].split("|") if told else None
 
@@ -116,9 +117,17 @@ class Living:
         self.checks, self.title = checks, environment["PGAPPNAME"]
         streams = {name: subprocess.PIPE for name in ("stdin", "stdout", "stderr")}
         self.process = subprocess.Popen(words, env=environment, text=True, **streams)
-        self.timer = threading.Timer(2 * SECONDS, self.process.kill)
-        self.timer.start()
+        self.timer = None
+        self.watch()
         checks.count("processes")
+
+    def watch(self):
+        """Has it killed where it takes too long from now on."""
+        if self.timer:
+            self.timer.cancel()
+        self.timer = threading.Timer(2 * SECONDS, self.process.kill)
+        self.timer.daemon = True
+        self.timer.start()
 
     @property
     def pid(self):
@@ -127,6 +136,7 @@ class Living:
 
     def say(self, *lines):
         """Gives it lines, and reads no reply."""
+        self.watch()
         self.process.stdin.write("".join(f"{line}\n" for line in lines))
         self.process.stdin.flush()
 
@@ -156,6 +166,7 @@ class Living:
 
     def end(self):
         """Has it end by itself, and gives what it wrote since then."""
+        self.watch()
         out, err = self.process.communicate()
         self.timer.cancel()
         return Ran(self.process.returncode, out.splitlines(), err)
