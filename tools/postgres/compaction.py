@@ -43,7 +43,7 @@ def compaction(site):
     reply = idle.reply("pubsub open 1 7 kept/1")
     checks.need(reply and reply.startswith("ok 7 "), f"of who did nothing meanwhile: {reply}")
     work = lambda one: checks.same(churn(one, PAIRS_AT_ONCE), [], "replies while three are at work")
-    threads = [threading.Thread(target=work, args=[one]) for one in (idle, busy, other)]
+    threads = [threading.Thread(target=work, args=[one], daemon=True) for one in (idle, busy, other)]
     for thread in threads:
         thread.start()
     for thread in threads:

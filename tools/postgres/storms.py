@@ -7,9 +7,9 @@ import time
 from logs import storm
 from logs.storm import PROCESSES, check_entries, check_given_back, check_listings, check_replies, check_world
 from postgres import texts
-from postgres.checks import SECONDS
+from postgres.checks import SECONDS, until
 from postgres.driver import Client
-from postgres.server import OWNER
+from postgres.server import OWNER, PAUSE
 from postgres.site import PATIENCE, PLAIN
 from postgres.table import replay
 
@@ -32,6 +32,11 @@ class Standing(Client):
         told = self.call(LAST.format(self.name))
         return tuple(map(int, told[0].split("|"))) if told else None
 
+    def wait_gone(self, title):
+        """Waits until the session of that name has ended, which may still have a question of a process that is gone."""
+        query = f"select pid from pg_stat_activity where application_name = '{title}'"
+        return until(lambda: not self.call(query), pause=PAUSE)
+
 
 class Process(storm.Process):
     """A process of the storm: its lines, its replies, whether it was killed, and where the log stood meanwhile."""
@@ -45,7 +50,7 @@ class Process(storm.Process):
         self.services, self.listings = [], []
         self.process, self.status, self.err = None, None, ""
         self.began = self.struck = self.ended = self.standing = None
-        self.environment = site.environment(self.server, PGAPPNAME=f"node-{node}")
+        self.environment = site.environment(self.server, PGAPPNAME=f"{name}-{node}")
         if program:
             self.environment["WULAMERON"] = str(program)
 
@@ -54,6 +59,8 @@ class Process(storm.Process):
         self.standing = Standing(self.server, self.name_of_log)
         self.began = self.standing.row()
         self.live()
+        gone = self.standing.wait_gone(self.environment["PGAPPNAME"])
+        self.site.checks.need(gone, f"node {self.node}: its session is there though its process has ended")
         self.ended = self.standing.row()
         self.standing.kill()
         self.is_killed = self.is_killed and self.status == -9
@@ -72,6 +79,7 @@ class Process(storm.Process):
         streams = {name: subprocess.PIPE for name in ("stdin", "stdout", "stderr")}
         self.process = subprocess.Popen(self.words(), env=self.environment, **streams)
         timer = threading.Timer(3 * SECONDS, self.stop, [self.process])
+        timer.daemon = True
         timer.start()
         try:
             self.feed(self.process)
@@ -143,6 +151,8 @@ def replayed(checks, server, processes, name, what):
 def afterwards(site, name, processes, what, server=None):
     """A new process cleans up for those that were killed, and leaves nothing."""
     checks, node = site.checks, PROCESSES + 1
+    alive = (server or site.server).wait_dead(name)
+    checks.need(not alive, f"{what}: of nodes whose processes have ended there are {alive}")
     lines = [f"event create {node} 0 afterwards", "list"]
     ran = site.ran("run", name, "--node", str(node), "--wait", str(PATIENCE), lines=lines, server=server)
     fine = ran.status == 0 and not ran.err and ran.out[:1] and ran.out[0].startswith("ok 0 ")
@@ -174,8 +184,8 @@ def run_storm(site, name, seed, **others):
     table = replayed(checks, site.server, processes, name, what)
     if table:
         afterwards(site, name, processes, what)
-        alive = site.server.told(f"select wulameron.nodes('{name}')")
-        checks.need(all(line.endswith(" dead") for line in alive), f"{what}: there are {alive}")
+        alive = site.server.wait_dead(name)
+        checks.need(not alive, f"{what}, afterwards: of nodes whose processes have ended there are {alive}")
 
 
 def storms(site):
