@@ -6,14 +6,14 @@ import re
 import time
 
 from postgres import texts
+from postgres.checks import until
 from postgres.driver import BUSY, Client, Ended, Log, Other
-from postgres.server import OWNER
+from postgres.server import OWNER, PAUSE
 
 DATA = [b"one", b"two", b"three"]
-PATIENCE = 300
+# For how many milliseconds is waited for what another has, where that is tried, and where it comes.
+PATIENCE, LONG = 300, 30000
 LONGEST = 1048592
-# After how many seconds the server ends a session that does nothing while it holds.
-STOPPED = 2
 # What the role of the nodes may not do, and with which state it is refused.
 FORBIDDEN = {
     "update wulameron.entries set bytes = 'x'": "42501",
@@ -63,6 +63,17 @@ def clients(server, count=2, role=None):
             client.kill()
 
 
+def unhurried(log):
+    """A handle whose session isn't ended while this check does something else."""
+    log.session.call("set idle_in_transaction_session_timeout = 0")
+    return log
+
+
+def pid_of(session):
+    """The server's process for a session."""
+    return session.call("select pg_backend_pid()")[0]
+
+
 def questions(checks, server):
     """Each question, byte for byte, with all lines of its reply."""
     with clients(server) as (one, other):
@@ -71,6 +82,7 @@ def questions(checks, server):
         told = one.ask(texts.opening("rights", True, PATIENCE), "opened")
         log, chain = told[0].split(" ")[1], told[0].split(" ")[5]
         same(told, [f"1 {log} 0 1 0 {chain}", "opened 00000"], "opening")
+        one.call("set idle_in_transaction_session_timeout = 0")
         same(other.ask(texts.opening("rights", False, PATIENCE), "opened"), told, "opening it again")
         same(other.ask(texts.reopening("rights"), "opened"), told, "reopening")
         same(one.ask(texts.holding(log, 0, 0), "held"), ["", f"0 {chain} 0", "held 00000"], "holding")
@@ -88,6 +100,8 @@ def questions(checks, server):
         same(other.ask(texts.looking(log, 0, 0), "read"), [f"{rows[0]} 3", *read, "read 00000"], "looking meanwhile")
         same(other.ask(texts.looking(log, 0, 1, 2), "read"), [f"{rows[1]} 3", read[1], "read 00000"], "a bounded look")
         same(other.ask(texts.looking(log, 0, 9), "read"), ["read 00000"], "looking at no own place")
+        other.call(f"set lock_timeout = {LONG}\\; set idle_in_transaction_session_timeout = 0")
+        one.call(f"set lock_timeout = {LONG}")
         one.say(texts.letting_go(log))
         same(other.ask(texts.holding(log, 0, 2), "held"), ["", f"{rows[2]} 3", read[2], "held 00000"], "holding then")
         same(other.ask(texts.pausing(log), "paused"), ["", "paused 00000"], "pausing")
@@ -98,7 +112,7 @@ def questions(checks, server):
 def pieces(checks, server):
     """More rows than a piece, and the longest row."""
     with clients(server) as sessions:
-        one, other = (Log(session, "pieces") for session in sessions)
+        one, other = (unhurried(Log(session, "pieces")) for session in sessions)
         wanted = [b"%d" % number for number in range(1, 200)]
         one.hold()
         for data in wanted:
@@ -114,23 +128,25 @@ def stopped(checks, server):
     """Who does nothing while it holds is ended, and so is who fails; who fails behind the gate gives it back."""
     with clients(server, 4) as (idle, failed, late, one):
         logs = [Log(session, name) for session, name in zip((idle, failed, late), ("idle", "failed", "late"))]
+        pids = [pid_of(session) for session in (idle, failed, late)]
         logs[0].hold()
         logs[1].hold()
         failed.state("select 1 / 0")
-        late.call("set statement_timeout = 100")
-        text = texts.holding(logs[2].log, 0, 0).replace("; select seq", "; select pg_sleep(1)\\; select seq", 1)
-        checks.same(late.ask(text, "held"), ["", "ERROR:  57014", "held 57014"], "a statement that takes too long")
-        Log(one, "late").hold()
+        late.say(texts.holding(logs[2].log, 0, 0).replace("; select seq", "; select pg_sleep(600)\\; select seq", 1))
+        asleep = f"select pg_cancel_backend(pid) from pg_stat_activity where pid = {pids[2]} and wait_event = 'PgSleep'"
+        until(lambda: server.told(asleep), pause=PAUSE)
+        checks.same(late.hear("held"), ["", "ERROR:  57014", "held 57014"], "a statement that is canceled")
+        unhurried(Log(one, "late")).hold()
         checks.need(True, "the gate is given back where a hold fails behind it")
         one.say(texts.letting_go(logs[2].log))
-        time.sleep(STOPPED + 0.2)
+        checks.need(server.wait_gone(pids[:2]), "a session that does nothing while it holds isn't ended")
         for session, log in ((idle, logs[0]), (failed, logs[1])):
             try:
                 told = session.ask(texts.looking(log.log, 0, 0), "read")
                 checks.need(False, f"a session that did nothing while it held was told {told}")
             except Ended as ended:
                 checks.need(str(ended).startswith("FATAL:  25P03; "), f"a session that did nothing was told {ended}")
-            Log(one, log.name).hold()
+            unhurried(Log(one, log.name)).hold()
             checks.need(True, "the gate of a session that ended is free")
             one.say(texts.letting_go(log.log))
 
@@ -139,7 +155,7 @@ def generations(checks, server):
     """A generation becomes the current one as a whole, by who has the gate, and nothing else does."""
     name = "generations"
     with clients(server, 3) as (session, other, reader):
-        log, behind = Log(session, name), Log(reader, name)
+        log, behind = unhurried(Log(session, name)), Log(reader, name)
         log.hold()
         for data in DATA:
             log.append(data)
@@ -159,14 +175,14 @@ def generations(checks, server):
         checks.same([data for _, data in behind.look()], [b"a", b"b", b"c"], "the rows of the current generation")
         for what, first, words in refused_generations(log.log):
             one = Client(server.environment())
-            held = Log(one, name)
+            held = unhurried(Log(one, name))
             held.look()
             one.state("begin") if what == "without the gate" else held.hold()
             for text in first:
                 checks.same(one.state(text), "00000", f"going on {what}")
             checks.same(one.state(words), "55000", f"going on {what}")
             one.kill()
-        one = Log(other, name)
+        one = unhurried(Log(other, name))
         one.look()
         one.hold()
         other.told(texts.moving(one.log, 1, 4, b"mark"), "moved")
@@ -217,8 +233,11 @@ def claims(checks, server):
         same(ask(other, texts.claiming("claims", 3, False)), ["f", "claimed 00000"], "a claim of another's, at once")
         free = [ask(session, texts.claiming_free("claims"))[0] for session in (one, other, other, third, third)]
         same(free, ["0", "1", "2", "4", "5"], "the lowest nodes that are free")
+        pid = pid_of(one)
         one.kill()
+        other.call(f"set lock_timeout = {LONG}")
         same(ask(other, texts.claiming("claims", 3, True)), ["t", "claimed 00000"], "a claim of a node that is dead")
+        checks.need(server.wait_gone([pid]), "the session of psql that was killed isn't ended")
         wanted = ["0 dead", "1 alive", "2 alive", "3 alive", "4 alive", "5 alive", "listed 00000"]
         same(ask(other, texts.listing("claims"), "listed"), wanted, "the nodes")
         for told in ("t", "f"):
@@ -236,9 +255,9 @@ def at_once(checks, server, count=12):
     """Many make one log at once, and take nodes of another one."""
     with clients(server, count) as found:
         for session in found:
-            session.call("select 1")
+            session.call(f"set lock_timeout = {LONG}")
         for session in found:
-            session.say(texts.opening("at-once", True, PATIENCE))
+            session.say(texts.opening("at-once", True, LONG))
         told = {tuple(session.hear("opened")) for session in found}
         checks.need(len(told) == 1 and min(told)[-1] == "opened 00000", f"logs that were made at once: {told}")
         for session in found:
