@@ -6,30 +6,32 @@ import time
 
 from postgres.checks import until
 from postgres.driver import Client
-from postgres.server import FAST, IMMEDIATE, OWNER
-from postgres.site import check_over, is_refused, session_of
+from postgres.server import FAST, IMMEDIATE, IN_COMMIT, OWNER, PAUSE
+from postgres.site import PATIENCE, check_over, is_refused, session_of
 from postgres.storms import Process, afterwards, begun, replayed, replied
 from postgres.table import replay
 
-# By what its session is known that waits for a replica within COMMIT.
-IN_COMMIT = "SyncRep"
-# After how many seconds the server ends a session that does nothing while it holds, and how long others wait then.
-STOPPED, WAITED = 2, 6
+# Why the server ends a session that does nothing for two seconds while it holds, and after how many seconds others have
+# what they wait for then, also on a slow machine.
+IDLE, WAITED = "terminating connection due to idle-in-transaction timeout", 20
 # How many lines each process of a storm has at which a server is restarted, and how many of them are answered then.
 LINES, LEAST = 600, 8
-# How often a process is stopped until that is within a hold.
-TRIES = 2000
+# What a session is at that has ended.
+ENDED = ["ended"]
+# How often a process is stopped until that is within a hold, and how long it then has to stand there: until whatever it
+# had asked before has come to the server. How often all of it is tried where more was on its way.
+TRIES, STANDS, ATTEMPTS = 2000, 0.2, 8
 
 
 def work(process, count=400):
     """Has a process create and close again and again."""
-    for number in range(count):
-        process.say(f"event create {process.node} 0 w/{number % 5} max_nodes=3", "close 0")
+    pairs = [(f"event create {process.node} 0 w/{number % 5} max_nodes=3", "close 0") for number in range(count)]
+    process.say(*(line for pair in pairs for line in pair))
 
 
-def begin(site, name, node):
+def begin(site, name, node, **environment):
     """A process that has made a call."""
-    process = site.living(name, node)
+    process = site.living(name, node, **environment)
     process.node = node
     reply = process.reply(f"event create {node} 9 own-{node}")
     site.checks.need(reply and reply.startswith("ok 9 "), f"{name}: a first create replied {reply}")
@@ -37,28 +39,39 @@ def begin(site, name, node):
 
 
 def stop_within_hold(process, owner, pid=None):
-    """Stops a process, or its psql, at a moment at which it holds; tells whether that came about."""
+    """Stops a process, or its psql, at a moment at which it holds. Gives the server's process for its session, and
+    nothing where that didn't come about."""
     pid = pid or process.pid
     for _ in range(TRIES):
         os.kill(pid, signal.SIGSTOP)
         found = until(lambda: settled(session_of(owner, process)), pause=0.001)
-        if found[0] == "idle in transaction" and found[3] == "t":
-            return True
+        if found == ENDED:
+            return None
+        if holds(found):
+            time.sleep(STANDS)
+            if session_of(owner, process) in (found, None):
+                return found[2]
         os.kill(pid, signal.SIGCONT)
         time.sleep(0.002)
-    return False
+    return None
 
 
 def settled(found):
     """What a session is at, where it isn't at work."""
-    return found if found and found[0] != "active" else None
+    found = found or ENDED
+    return found if found[0] != "active" else None
+
+
+def holds(found):
+    """Whether a session does nothing while it has a gate."""
+    return found[0] == "idle in transaction" and found[3] == "t"
 
 
 def check_rest(site, name, what, nodes):
     """Nodes that begin again find what they had given back, and in the end there is nothing."""
     for node in nodes:
-        ran = site.ran("run", name, "--node", str(node), "--wait", "10000", lines=[f"event create {node} 0 own-{node}"])
-        fine = ran.status == 0 and not ran.err and ran.out[0].startswith("ok 0 ")
+        ran = site.ran("run", name, "--node", str(node), "--wait", str(PATIENCE), lines=[f"event create {node} 0 own-{node}"])
+        fine = ran.status == 0 and not ran.err and ran.out[:1] and ran.out[0].startswith("ok 0 ")
         site.checks.need(fine, f"{what}: node {node} begins again: {ran}")
     table = replay(site.checks, site.server, name, what)
     if table:
@@ -69,16 +82,24 @@ def stopped(site, owner, is_psql):
     """A process, or its psql, that is stopped while it holds: the server ends its session, and others wait no longer."""
     checks, name = site.checks, f"stopped-{is_psql}".lower()
     process, other = begin(site, name, 1), begin(site, name, 2)
-    work(process)
     pid = process.psql() if is_psql else process.pid
-    if not checks.need(stop_within_hold(process, owner, pid), "a process wasn't stopped within a hold"):
-        return
-    began = time.monotonic()
-    reply = other.reply("event create 2 0 meanwhile")
-    waited = time.monotonic() - began
-    checks.need(reply and reply.startswith("ok 0 "), f"while another is stopped within a hold: {reply}")
+    for attempt in range(ATTEMPTS):
+        work(process, 50 if attempt else 400)
+        session = stop_within_hold(process, owner, pid)
+        if not checks.need(session, "a process wasn't stopped within a hold"):
+            return
+        began = time.monotonic()
+        reply = other.reply(f"event create 2 {attempt} meanwhile-{attempt}")
+        waited = time.monotonic() - began
+        left = session_of(owner, process)
+        if not left or holds(left):
+            break
+        # What was on its way has let go.
+        os.kill(pid, signal.SIGCONT)
+    checks.need(reply and reply.startswith("ok "), f"while another is stopped within a hold: {reply}")
     checks.need(waited < WAITED, f"while another is stopped within a hold, a call took {waited:.1f} seconds")
-    checks.same(session_of(owner, process), None, "the session of a process that is stopped within a hold")
+    checks.same(left, None, "the session of a process that is stopped within a hold")
+    checks.same(site.server.reason(session), IDLE, "why the session ended of a process that is stopped within a hold")
     os.kill(pid, signal.SIGCONT)
     check_over(checks, process.end(), name, "a process that was stopped within a hold")
     ran = other.end()
@@ -121,14 +142,17 @@ def within_commit(site, owner):
         name, what = f"commit-{what}", f"within a commit, its session is {what}"
         process = begin(site, name, 1)
         before = server.told("select count(*) from wulameron.entries")
-        server.set("synchronous_standby_names", "none")
+        server.delay_commits()
         process.say("event create 1 0 doubtful")
         found = until(lambda: (one := session_of(owner, process)) and one[1] == IN_COMMIT and one)
+        started = server.processes()
         if checks.need(found, f"{what}: no commit waits"):
             way(found[2])
         checks.count("kills")
         check_over(checks, process.end(), name, what)
-        until(server.answers)
+        # A server of which a process was killed ends all sessions a little later, and begins anew.
+        begun_anew = what.endswith("killed")
+        until(lambda: server.processes() and (server.processes() != started or not begun_anew), pause=PAUSE)
         server.set("synchronous_standby_names", "")
         after = server.told("select count(*) from wulameron.entries")
         checks.same(int(after[0]) - int(before[0]), 1, f"{what}: entries that are in the table")
@@ -143,7 +167,8 @@ def restarted(site, how, what):
     processes = begun(site, name, checks.random.randrange(10**6), Ended, killed=0, calls=LINES)
     for process in processes:
         process.start()
-    until(lambda: min(len(process.replies) for process in processes) >= LEAST)
+    at_work = until(lambda: min(len(process.replies) for process in processes) >= LEAST)
+    checks.need(at_work, f"{what}: not each process is at work")
     server.stop(how)
     server.start()
     for process in processes:

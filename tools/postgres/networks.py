@@ -2,21 +2,27 @@
 one is cut within a hold, within an append and after it, for longer than the keepalives."""
 import contextlib
 import os
+import secrets
 import signal
 import subprocess
 import time
 
 from postgres.checks import until
 from postgres.driver import Client
-from postgres.ends import IN_COMMIT, begin, check_rest, stop_within_hold, work
-from postgres.server import OWNER, Server
-from postgres.site import check_over, is_refused, session_of
+from postgres.ends import ENDED, IDLE, WAITED, begin, check_rest, holds, stop_within_hold, work
+from postgres.server import IN_COMMIT, OWNER, PAUSE, Server
+from postgres.site import PATIENCE, check_over, is_refused, session_of
 from postgres.table import replay
 
-# How long a cut may be that nobody notices, and how long others wait for a gate that is beyond a cut. The server ends a
-# session that does nothing while it holds after two seconds, and one that answers nothing after some eleven.
-SHORT_CUT, WAITED = 3, 6
-ALIVE, DEAD = 4, 25
+# How long a cut is that nobody notices, and how long it is at most from the last lines of a session until its end: each
+# side notices after eleven seconds without a sign of the other one. How often it is tried where that took longer.
+SHORT_CUT, LONGEST_CUT, CUTS = 2, 9, 5
+# After how many seconds of a cut no session has ended yet for that: the sign before it may have been five seconds ago.
+ALIVE = 4
+# How the namespaces of this run begin, which another run has no part of.
+PREFIX = f"wpg{secrets.token_hex(3)}"
+# How long a connection is tried for while a link comes up.
+TRIED = 2
 
 
 def ip(*words):
@@ -45,15 +51,16 @@ class Machine:
     def mend(self, port):
         """Mends its link, and waits until the server's port is there again."""
         ip("-n", self.hub, "link", "set", self.link, "up")
-        words = ["ip", "netns", "exec", self.name, "bash", "-c", f"exec 3<>/dev/tcp/{self.server}/{port}"]
-        until(lambda: not subprocess.run(words, capture_output=True, check=False).returncode, pause=0.2)
+        words = ["ip", "netns", "exec", self.name, "timeout", str(TRIED), "bash", "-c"]
+        words += [f"exec 3<>/dev/tcp/{self.server}/{port}"]
+        until(lambda: not subprocess.run(words, capture_output=True, check=False).returncode, pause=PAUSE)
 
 
 class Network:
     """The server's namespace, and two machines; as long as it is entered."""
 
     def __init__(self):
-        self.hub, self.machines = f"wpg{os.getpid() % 100000}", []
+        self.hub, self.machines = f"{PREFIX}{secrets.token_hex(2)}", []
 
     def __enter__(self):
         ip("netns", "add", self.hub)
@@ -96,16 +103,16 @@ class Far:
         """That of a program there."""
         return self.site.environment(self.server, PGHOST=self.machine.server, **others)
 
-    def living(self, name, node):
+    def living(self, name, node, **others):
         """A process there."""
-        words = self.words("run", name, "--node", str(node), "--wait", "10000")
-        return self.site.living_of(words, name, node, self.environment())
+        words = self.words("run", name, "--node", str(node), "--wait", str(PATIENCE))
+        return self.site.living_of(words, name, node, self.environment(**others))
 
 
 def meanwhile(near, name, what):
     """While the other machine is cut off from a log, a call of this one is granted in time."""
     began = time.monotonic()
-    ran = near.ran("run", name, "--node", "1", "--wait", "10000", lines=["pubsub create 1 0 meanwhile"])
+    ran = near.ran("run", name, "--node", "1", "--wait", str(PATIENCE), lines=["pubsub create 1 0 meanwhile"])
     took = time.monotonic() - began
     near.checks.need(ran.status == 0 and ran.out[:1] and ran.out[0].startswith("ok 0 "), f"{what}: {ran}")
     near.checks.need(took < WAITED, f"{what}: a call took {took:.1f} seconds")
@@ -114,21 +121,29 @@ def meanwhile(near, name, what):
 def cut_within(near, far, owner):
     """The link is cut while one is within a hold, one within an append, and one does nothing."""
     checks, server = near.checks, near.server
-    holding, doubtful, idle = (begin(far, name, 2) for name in ("cut-hold", "cut-append", "cut-idle"))
-    work(holding)
-    checks.need(stop_within_hold(holding, owner), "a process wasn't stopped within a hold")
-    server.set("synchronous_standby_names", "none")
+    doubtful, idle = (begin(far, name, 2) for name in ("cut-append", "cut-idle"))
+    # Its own commits don't wait for the replica for which that of the other one waits.
+    holding = begin(far, "cut-hold", 2, PGOPTIONS="-c synchronous_commit=local")
+    server.delay_commits()
     doubtful.say("event create 2 0 doubtful")
-    checks.need(until(lambda: (one := session_of(owner, doubtful)) and one[1] == IN_COMMIT), "no commit waits")
-    far.machine.cut()
+    found = until(lambda: (one := session_of(owner, doubtful)) and one[1] == IN_COMMIT and one)
+    checks.need(found, "no commit waits")
+    sessions = {"an append": found and found[2]}
+    work(holding)
+    sessions["a hold"] = stop_within_hold(holding, owner)
+    checks.need(sessions["a hold"], "a process wasn't stopped within a hold")
     began = time.monotonic()
+    far.machine.cut()
+    checks.count("cuts within a hold", holds(session_of(owner, holding) or ENDED))
+    alive = server.told("select wulameron.nodes('cut-idle')")
+    if time.monotonic() - began < ALIVE:
+        checks.same(alive, ["2 alive"], "a node that was just cut off")
     server.set("synchronous_standby_names", "")
     meanwhile(near, "cut-append", "while another is cut off within an append")
     meanwhile(near, "cut-hold", "while another is cut off within a hold")
-    if time.monotonic() - began < ALIVE:
-        checks.same(server.told("select wulameron.nodes('cut-idle')"), ["2 alive"], "a node that was just cut off")
-    until(lambda: server.told("select wulameron.nodes('cut-idle')") == ["2 dead"], DEAD)
-    checks.same(server.told("select wulameron.nodes('cut-idle')"), ["2 dead"], "a node that is cut off")
+    for what, session in sessions.items():
+        checks.same(server.reason(session), IDLE, f"why the session ended of a process that is cut off within {what}")
+    checks.need(not server.wait_dead("cut-idle"), "a node that is cut off is alive")
     meanwhile(near, "cut-idle", "while another is cut off")
     check_over(checks, doubtful.end(), "cut-append", "a process that was cut off within an append")
     far.machine.mend(far.server.port)
@@ -140,15 +155,24 @@ def cut_within(near, far, owner):
 
 
 def cut_shortly(far):
-    """A cut that is shorter than the keepalives isn't noticed by who does nothing."""
-    process = begin(far, "cut-shortly", 2)
-    far.machine.cut()
-    time.sleep(SHORT_CUT)
-    far.machine.mend(far.server.port)
-    reply = process.reply("event create 2 0 after")
-    far.checks.need(reply and reply.startswith("ok 0 "), f"after a short cut: {reply}")
-    ran = process.end()
-    far.checks.need(ran.status == 0 and not ran.err, f"after a short cut: {ran}")
+    """A cut that is shorter than the keepalives isn't noticed by who does nothing. Where this machine was so slow that it
+    wasn't that short, another process is tried."""
+    for cut in range(CUTS):
+        process = begin(far, "cut-shortly", 2)
+        began = time.monotonic()
+        process.reply("list")
+        far.machine.cut()
+        time.sleep(SHORT_CUT)
+        far.machine.mend(far.server.port)
+        lasted = time.monotonic() - began
+        reply = process.reply(f"event create 2 0 after-{cut}")
+        ran = process.end()
+        if lasted < LONGEST_CUT:
+            break
+    what = f"after a cut of {lasted:.1f} seconds"
+    far.checks.need(lasted < LONGEST_CUT, f"{CUTS} cuts took too long, the last one {lasted:.1f} seconds")
+    far.checks.need(reply and reply.startswith("ok 0 "), f"{what}: {reply}")
+    far.checks.need(ran.status == 0 and not ran.err, f"{what}: {ran}")
 
 
 def networks(site):
