@@ -2,14 +2,16 @@
 they print is what a reader in Python finds in the table."""
 import json
 import signal
-import time
 
-from logs.commands import BEGUN, NAME, REFUSED, VERBS, Command, check_change
+from logs.commands import NAME, REFUSED, VERBS, Command, check_change
 from postgres.checks import until
-from postgres.server import LAUNCHER
+from postgres.server import LAUNCHER, PAUSE
 from postgres.table import read_rows, replay
 
 LOG = "commands"
+# Whether who watches has had the answer to its first reading.
+HAS_READ = """select pid from pg_stat_activity where application_name = 'watch' and state = 'idle'
+    and query like '%from wulameron.entries%'"""
 
 
 class Shown:
@@ -19,10 +21,11 @@ class Shown:
 
     def __init__(self, site):
         self.site, self.need, self.count = site, site.checks.need, site.checks.count
+        self.title = LOG
 
     def environment(self, _path):
-        """That of the launcher."""
-        return self.site.environment()
+        """That of the launcher. Sessions go under a name that is told before."""
+        return self.site.environment(PGAPPNAME=self.title)
 
     def command(self, *words):
         """A command at the log, whose input is open until it is ended."""
@@ -54,7 +57,7 @@ def check_dead(shown):
     """One of both nodes is dead: what shows it, and what cleans up for it."""
     need = shown.need
     wanted = ["node 1 alive", "node 2 dead", "node 3 dead"]
-    nodes = until(lambda: (ran := shown.once("nodes")).out == wanted and ran, pause=0.1)
+    nodes = until(lambda: (ran := shown.once("nodes")).out == wanted and ran, pause=PAUSE)
     need(nodes, f"nodes printed {shown.once('nodes')}, not {wanted}")
     found = json.loads("".join(shown.once("nodes", "--json").out) or "null")
     need(found == [{"alive": node == 1, "node": node} for node in (1, 2, 3)], f"nodes --json printed {found}")
@@ -117,10 +120,13 @@ def commands(site):
     need = shown.need
     maker = shown.command("hold", "--node", "1", "event", "create", NAME, "max_nodes=3")
     need(maker.line() == f"name: {NAME}", "hold doesn't print what was agreed")
+    shown.title = "watch"
     watch = shown.command("watch", "--json")
+    shown.title = LOG
     follower = shown.command("log", "--follow")
     first = follower.line()
-    time.sleep(BEGUN)
+    # Who watches tells what comes behind its first reading.
+    need(until(lambda: site.server.told(HAS_READ), pause=PAUSE), "who watches doesn't read the log")
     opener = shown.command("hold", "--node", "2", "event", "open", NAME)
     need(opener.line() == f"name: {NAME}", "hold of an open doesn't print what was agreed")
     check_change(shown, watch, "opened", 2)

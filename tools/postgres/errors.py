@@ -11,7 +11,7 @@ import subprocess
 from postgres import texts
 from postgres.checks import SECONDS, until
 from postgres.driver import Client, Log
-from postgres.server import DATABASE, OWNER, free_port
+from postgres.server import DATABASE, OWNER, PAUSE, SCHEMA
 from postgres.site import FAULT, Ran, is_refused
 
 # How the arguments are refused.
@@ -19,9 +19,11 @@ WRONG_ARGUMENTS = 2
 # What is told of it that isn't the program's own, by what is tried.
 NO_SERVER = "start the server, or name another by -h and -p"
 PASSWORD = "each user of this machine sees a password in arguments; write it into a password file ("
-# How a session begins without psql, and how many are kept for superusers.
-PROTOCOL, BEGIN, RESERVED = 196608, b"user\0lamps\0database\0logs\0\0", 3
+# How a session begins without psql, and by what the server ends its answer.
+PROTOCOL, BEGIN, READY = 196608, b"user\0lamps\0database\0logs\0\0", b"Z\0\0\0\5I"
 AGAIN = "try again in a moment"
+# How soon a host's name is given up.
+SOON = {"RES_OPTIONS": "timeout:1 attempts:1"}
 # A program that tells with which words it is run, and what its session is.
 TELLING = """#!/bin/sh
 echo "$@"
@@ -74,7 +76,7 @@ def told_program(site, room):
     ways = [["-d", DATABASE], [f"-d{DATABASE}"], [f"--dbname={DATABASE}"], ["--dbname", f"dbname={DATABASE}"],
             ["-d", f"postgresql:///{DATABASE}"], ["-d", f"postgres:///{DATABASE}?user=lamps"], [],
             ["-h", str(server.folder), "-p", str(server.port), "-U", "lamps", "-w"],
-            ["-h", "here", f"--port={server.port}", "--username=lamps", f"--dbname=host=localhost dbname={DATABASE}"]]
+            ["-h", "here", f"--port={server.port}", "--username=lamps", f"--dbname=host={server.folder} dbname={DATABASE}"]]
     for words in ways:
         ran = launched(site, *words, "list", "--at", "postgres:x", WULAMERON=str(program))
         told = r"list --psql /proc/self/fd/\d+:/proc/self/fd/\d+ --at postgres:x"
@@ -90,7 +92,7 @@ def told_program(site, room):
     # A program that ends before it opens the pipes leaves nothing.
     ran = launched(site, "end", WULAMERON=str(program), TMPDIR=str(room))
     checks.need(ran.status == 7, f"a program that ends at once: {ran}")
-    left = until(lambda: not children_left(room))
+    left = until(lambda: not children_left(room), pause=PAUSE)
     checks.need(left, f"a program that ended at once has left {children_left(room)}")
     check_launched(site, "no folder for the pipes", ["list"], ["pipes", "/nowhere", "TMPDIR"], TMPDIR="/nowhere")
     ran = launched(site, "list", "--help", WULAMERON=str(program), PGHOST="/nowhere")
@@ -138,8 +140,13 @@ def server_refused(site, room):
     server = site.server
     check = lambda what, words, *wanted, **others: check_launched(site, what, [*words, "list"], wanted, **others)
     check("no server at a socket", ["-h", "/nowhere"], "No such file or directory; ", NO_SERVER)
-    check("no server at a port", ["-h", "127.0.0.1", "-p", str(free_port())], "Connection refused; ", NO_SERVER)
-    check("no such host", ["-h", "nowhere.invalid"], "could not translate host name", NO_SERVER)
+    with socket.socket() as taken:
+        # Nobody else is at a port that is taken, and nobody answers there.
+        taken.bind(("127.0.0.1", 0))
+        words = ["-h", "127.0.0.1", "-p", str(taken.getsockname()[1])]
+        check("no server at a port", words, "Connection refused; ", NO_SERVER)
+    # Where no server of names answers, that is known soon.
+    check("no such host", ["-h", "nowhere.invalid."], "could not translate host name", NO_SERVER, **SOON)
     check("no such database", ["-d", "nothing"], 'database "nothing" does not exist', "createdb", "-d")
     check("no such role", ["-U", "nobody"], 'role "nobody" does not exist', "createuser", "-U")
     check("a role that may not log in", ["-U", "wulameron_node"], "not permitted to log in", "createuser")
@@ -147,9 +154,8 @@ def server_refused(site, room):
     server.told("create role limited login connection limit 0 in role wulameron_node")
     server.told("create role refused login in role wulameron_node")
     server.admit("local all secretive scram-sha-256", "local all refused reject")
-    server.told("select pg_reload_conf()")
+    server.reload()
     passwords = room / "passwords"
-    until(lambda: launched(site, "-U", "secretive", "list").err.count("no password supplied"))
     for text, wanted in (("*:*:*:*:wrong", "password authentication failed"), ("", "no password supplied")):
         passwords.write_text(f"{text}\n")
         passwords.chmod(0o600)
@@ -167,15 +173,28 @@ def server_refused(site, room):
 def all_taken(site):
     """All sessions of a server are taken."""
     server, count = site.server, int(site.server.told("show max_connections")[0])
-    others = "select count(*) from pg_stat_activity where backend_type = 'client backend' and pid <> pg_backend_pid()"
+    others = "select pid from pg_stat_activity where backend_type = 'client backend' and pid <> pg_backend_pid()"
     with contextlib.ExitStack() as found:
         for _ in range(count):
             one = found.enter_context(socket.socket(socket.AF_UNIX))
-            one.connect(f"{server.folder}/.s.PGSQL.{server.port}")
-            one.sendall(struct.pack(">II", len(BEGIN) + 8, PROTOCOL) + BEGIN)
-        until(lambda: int(server.told(others)[0]) >= count - RESERVED)
+            if not is_let_in(one, f"{server.folder}/.s.PGSQL.{server.port}"):
+                break
         check_launched(site, "too many sessions", ["list"], ["connection slots are reserved", "max_connections"])
-    until(lambda: int(server.told(others)[0]) < RESERVED)
+    until(lambda: (ran := server.ask(others)).returncode == 0 and not ran.stdout, pause=PAUSE)
+
+
+def is_let_in(one, path):
+    """Whether a session begins at a server's socket, or is refused."""
+    one.settimeout(SECONDS)
+    one.connect(path)
+    one.sendall(struct.pack(">II", len(BEGIN) + 8, PROTOCOL) + BEGIN)
+    heard = b""
+    while not heard.endswith(READY):
+        more = one.recv(4096)
+        if not more:
+            return False
+        heard += more
+    return True
 
 
 def shutting_down(site):
@@ -183,7 +202,7 @@ def shutting_down(site):
     last = Client(site.server.environment())
     last.call("select 1")
     site.server.process.send_signal(signal.SIGTERM)
-    until(lambda: site.server.ask("select 1").returncode)
+    until(lambda: site.server.ask("select 1").returncode, pause=PAUSE)
     check_launched(site, "a server that shuts down", ["list"], ["the database system is shutting down", AGAIN])
     last.kill()
     site.server.process.wait(SECONDS)
@@ -222,7 +241,8 @@ def program_refused(site):
 def version(site):
     """A schema of another version."""
     server = site.server
-    server.told(f"create database another template {DATABASE}")
+    server.told("create database another")
+    server.script("another", f"\\i {SCHEMA}")
     body = server.told("select prosrc from pg_proc where proname = 'opened'", database="another")
     text = "\n".join(body).replace("concat_ws(' ', 1,", "concat_ws(' ', 2,")
     head = "create or replace function wulameron.opened(name text, makes boolean) returns setof text language plpgsql"
@@ -247,7 +267,7 @@ def busy(site):
     ran = site.ran("run", name, "--node", "2", "--wait", "200", lines=["event create 2 0 lamps"])
     fine = "others hold the log" in ran.err and (ran.status == FAULT or is_refused(ran.out[0]))
     checks.need(fine, f"a process that begins while another holds the log: {ran}")
-    other.say(texts.letting_go(log.log))
+    other.told(texts.pausing(log.log), "paused")
     for line, wanted in (("close 0", "closed 0"), ("event create 1 1 more", "ok 1 ")):
         reply = process.reply(line)
         checks.need(reply and reply.startswith(wanted), f"to {line!r} when the log is free again: {reply}")
