@@ -4,7 +4,7 @@ from postgres import texts
 from postgres.checks import until
 from postgres.driver import Client, Log, Other
 from postgres.ends import LEAST, LINES, Ended, check_rest
-from postgres.server import IMMEDIATE, Server, replica
+from postgres.server import IMMEDIATE, PAUSE, Server, replica
 from postgres.site import check_over, is_refused
 from postgres.storms import afterwards, begun, replied, replayed
 from postgres.table import read_rows, replay
@@ -21,7 +21,8 @@ def run_until_failover(site, name, server, strike):
     processes = begun(site, name, checks.random.randrange(10**6), Ended, killed=0, calls=LINES, server=server)
     for process in processes:
         process.start()
-    until(lambda: min(len(process.replies) for process in processes) >= LEAST)
+    at_work = until(lambda: min(len(process.replies) for process in processes) >= LEAST)
+    checks.need(at_work, f"{name}: not each process is at work")
     strike(processes)
     for process in processes:
         process.join()
@@ -34,8 +35,9 @@ def run_until_failover(site, name, server, strike):
 def takes_over(site, server, other):
     """The server is gone for good, and the other one becomes the first."""
     server.stop(IMMEDIATE)
-    other.told("select pg_promote()")
-    site.checks.need(until(lambda: other.told("select pg_is_in_recovery()") == ["f"]), "a replica doesn't take over")
+    other.told("select pg_promote(false)")
+    is_first = until(lambda: other.told("select pg_is_in_recovery()") == ["f"], pause=PAUSE)
+    site.checks.need(is_first, "a replica doesn't take over")
 
 
 class At:
@@ -54,7 +56,7 @@ def synchronous(site, server, other):
     name = "synchronous"
     server.set("synchronous_standby_names", STANDBY)
     state = "select sync_state from pg_stat_replication"
-    site.checks.need(until(lambda: server.told(state) == ["sync"]), "the replica isn't synchronous")
+    site.checks.need(until(lambda: server.told(state) == ["sync"], pause=PAUSE), "the replica isn't synchronous")
     readers(site, other)
     processes = run_until_failover(site, name, server, lambda _: takes_over(site, server, other))
     if replayed(site.checks, other, processes, name, "a synchronous failover"):
@@ -86,7 +88,7 @@ def both(site, server, other):
     words = site.words("run", "synchronous", "--node", "1")
     words[1:1] = ["-d", f"{name} dbname=logs user=lamps"]
     ran = site.finished(words, ["event create 1 0 lamps"], site.environment(other))
-    site.checks.need(ran.status == 0 and ran.out[0].startswith("ok 0 "), f"by the names of both servers: {ran}")
+    site.checks.need(ran.status == 0 and ran.out[:1] and ran.out[0].startswith("ok 0 "), f"by the names of both servers: {ran}")
 
 
 def asynchronous(site, server, other):
@@ -96,9 +98,10 @@ def asynchronous(site, server, other):
 
     def strike(processes):
         """Has the replica get no more, and take over when it lacks some."""
-        until(lambda: any(row for row in other.told(f"select wulameron.opened('{name}', false)")))
+        opened = f"select wulameron.opened('{name}', false)"
+        checks.need(until(lambda: other.told(opened), pause=PAUSE), "a replica doesn't get a log")
         other.set("primary_conninfo", "host=/nowhere")
-        until(lambda: not server.told("select * from pg_stat_replication"))
+        until(lambda: not server.told("select * from pg_stat_replication"), pause=PAUSE)
         before = sum(len(process.replies) for process in processes)
         until(lambda: sum(len(process.replies) for process in processes) >= before + LOST)
         log = Log(Client(server.environment()), name, makes=False)

@@ -12,9 +12,9 @@ import signal
 import subprocess
 import threading
 
-from postgres.checks import SECONDS
+from postgres.checks import SECONDS, until
 from postgres.networks import Network
-from postgres.server import OWNER, TOP, Server
+from postgres.server import OWNER, PAUSE, TOP, Server
 
 PAGE = TOP / "docs/POSTGRES.md"
 BLOCK = re.compile(r"^```console\n(.*?)^```$", re.MULTILINE | re.DOTALL)
@@ -24,6 +24,8 @@ HOSTS = {"server": ["server"], "one": ["one"], "two": ["two"], "each": ["one", "
 SERVER, PASSWORD, PROGRAM = "db.example", "PASSWORD", "crates/wulameron/out/wulameron"
 NETWORK = "10.0.0.0/8"
 DONE = "this was its status:"
+# A command that looks at what sessions are at, and one after which the server reads its files again.
+LOOKING, RELOADING = re.compile(r"select .*(wulameron\.nodes|pg_stat_activity|pg_locks)"), "pg_reload_conf"
 
 
 def commands(text):
@@ -55,6 +57,7 @@ class Terminal:
         """What a command prints, and its status; of one that stays so many lines, and no status."""
         self.stays = stays
         timer = threading.Timer(SECONDS, os.killpg, [self.process.pid, signal.SIGKILL])
+        timer.daemon = True
         timer.start()
         self.process.stdin.write(f"{command}\n" if stays else f"{command}\necho '{DONE}' $?\n")
         self.process.stdin.flush()
@@ -97,12 +100,20 @@ def check_page(site, server, terminals, addresses, network):
                 site.checks.need(False, f"the page gives {host} a command while another one stays: {command}")
                 continue
             stays = command.startswith("wulameron-postgres hold ") and status == 0
-            found = terminal.run(own_words(site, command, addresses[host], network), len(printed), stays)
+            own = own_words(site, command, addresses[host], network)
+            found = terminal.run(own, len(printed), stays)
+            if LOOKING.search(command) and found != (printed, status):
+                # That a session has ended, or has given back, is seen a little later.
+                found = until(lambda: (one := terminal.run(own, 0, False)) == (printed, status) and one, pause=PAUSE) or found
             site.checks.same(found, (printed, status), f"on {host}: {command}")
+            if RELOADING in command:
+                server.reload()
     for host, terminal in terminals.items():
         site.checks.same(terminal.end(), 0, f"the status of the last command on {host}")
-    found = server.ask("select wulameron.nodes('building')", database="services").stdout
-    site.checks.same(found, "1 dead\n2 dead\n", "the nodes behind the page's commands")
+    wanted = ["1 dead", "2 dead"]
+    look = lambda: server.told("select wulameron.nodes('building')", database="services")
+    until(lambda: look() == wanted, pause=PAUSE)
+    site.checks.same(look(), wanted, "the nodes behind the page's commands")
 
 
 def page(site):
@@ -120,7 +131,7 @@ def page(site):
             fronts = [["ip", "netns", "exec", machine.name] for machine in network.machines]
             found = dict(zip(("one", "two"), (machine.server for machine in network.machines)))
         else:
-            server = site.add(Server(site.programs, site.room / "page")).make()
+            server = site.add(Server(site.programs, site.room / "page", "127.0.0.1")).make()
             fronts, found = [[], []], {"one": "127.0.0.1", "two": "127.0.0.1"}
         plain = {name: value for name, value in server.environment().items() if not name.startswith("PG")}
         terminals = {"server": Terminal([], site.room / "at-server", server.environment(OWNER))}
