@@ -6,6 +6,7 @@ import signal
 from logs.commands import NAME, REFUSED, VERBS, Command, check_change
 from postgres.checks import until
 from postgres.server import LAUNCHER, PAUSE
+from postgres.site import waiting
 from postgres.table import read_rows, replay
 
 LOG = "commands"
@@ -29,7 +30,7 @@ class Shown:
 
     def command(self, *words):
         """A command at the log, whose input is open until it is ended."""
-        return Command(self, f"postgres:{LOG}", *words)
+        return Command(self, f"postgres:{LOG}", words[0], *waiting(words[0], words[1:]))
 
     def once(self, command, *words):
         """Runs a command until it ends."""

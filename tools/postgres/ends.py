@@ -7,7 +7,7 @@ import time
 from postgres.checks import until
 from postgres.driver import Client
 from postgres.server import FAST, IMMEDIATE, IN_COMMIT, OWNER, PAUSE
-from postgres.site import PATIENCE, check_over, is_refused, session_of
+from postgres.site import check_over, is_refused, session_of
 from postgres.storms import Process, afterwards, begun, replayed, replied
 from postgres.table import replay
 
@@ -70,7 +70,7 @@ def holds(found):
 def check_rest(site, name, what, nodes):
     """Nodes that begin again find what they had given back, and in the end there is nothing."""
     for node in nodes:
-        ran = site.ran("run", name, "--node", str(node), "--wait", str(PATIENCE), lines=[f"event create {node} 0 own-{node}"])
+        ran = site.ran("run", name, "--node", str(node), lines=[f"event create {node} 0 own-{node}"])
         fine = ran.status == 0 and not ran.err and ran.out[:1] and ran.out[0].startswith("ok 0 ")
         site.checks.need(fine, f"{what}: node {node} begins again: {ran}")
     table = replay(site.checks, site.server, name, what)

@@ -11,7 +11,7 @@ from postgres.checks import until
 from postgres.driver import Client
 from postgres.ends import ENDED, IDLE, WAITED, begin, check_rest, holds, stop_within_hold, work
 from postgres.server import IN_COMMIT, OWNER, PAUSE, Server
-from postgres.site import PATIENCE, check_over, is_refused, session_of
+from postgres.site import check_over, is_refused, session_of
 from postgres.table import replay
 
 # How long a cut is that nobody notices, and how long it is at most from the last lines of a session until its end: each
@@ -105,14 +105,14 @@ class Far:
 
     def living(self, name, node, **others):
         """A process there."""
-        words = self.words("run", name, "--node", str(node), "--wait", str(PATIENCE))
+        words = self.words("run", name, "--node", str(node))
         return self.site.living_of(words, name, node, self.environment(**others))
 
 
 def meanwhile(near, name, what):
     """While the other machine is cut off from a log, a call of this one is granted in time."""
     began = time.monotonic()
-    ran = near.ran("run", name, "--node", "1", "--wait", str(PATIENCE), lines=["pubsub create 1 0 meanwhile"])
+    ran = near.ran("run", name, "--node", "1", lines=["pubsub create 1 0 meanwhile"])
     took = time.monotonic() - began
     near.checks.need(ran.status == 0 and ran.out[:1] and ran.out[0].startswith("ok 0 "), f"{what}: {ran}")
     near.checks.need(took < WAITED, f"{what}: a call took {took:.1f} seconds")

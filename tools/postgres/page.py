@@ -14,7 +14,7 @@ import threading
 
 from postgres.checks import SECONDS, until
 from postgres.networks import Network
-from postgres.server import OWNER, PAUSE, TOP, Server
+from postgres.server import LAUNCHER, OWNER, PAUSE, TOP, Server
 
 PAGE = TOP / "docs/POSTGRES.md"
 BLOCK = re.compile(r"^```console\n(.*?)^```$", re.MULTILINE | re.DOTALL)
@@ -23,6 +23,8 @@ HOSTS = {"server": ["server"], "one": ["one"], "two": ["two"], "each": ["one", "
 # What the page has in place of what is one's own.
 SERVER, PASSWORD, PROGRAM = "db.example", "PASSWORD", "crates/wulameron/out/wulameron"
 NETWORK = "10.0.0.0/8"
+# How many sessions there are, and how long one may take to end.
+SESSIONS, ENDING = "select count(*) from pg_stat_activity where usename = 'robots'", 10
 DONE = "this was its status:"
 # A command that looks at what sessions are at, and one after which the server reads its files again.
 LOOKING, RELOADING = re.compile(r"select .*(wulameron\.nodes|pg_stat_activity|pg_locks)"), "pg_reload_conf"
@@ -108,6 +110,10 @@ def check_page(site, server, terminals, addresses, network):
             site.checks.same(found, (printed, status), f"on {host}: {command}")
             if RELOADING in command:
                 server.reload()
+            if LAUNCHER.name in command:
+                # A node is another session's until that has ended.
+                count = str(sum(one.stays for one in terminals.values()))
+                until(lambda: server.told(SESSIONS) == [count], ENDING, PAUSE)
     for host, terminal in terminals.items():
         site.checks.same(terminal.end(), 0, f"the status of the last command on {host}")
     wanted = ["1 dead", "2 dead"]

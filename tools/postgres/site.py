@@ -15,6 +15,8 @@ from postgres.server import IMMEDIATE, LAUNCHER, Server
 PLAIN = pathlib.Path(__file__).resolve().parent / "plain"
 # For how many milliseconds a call waits for a log that others hold.
 PATIENCE = 30000
+# The commands that take a log or a node, which others may have a moment longer.
+TAKING = ("run", "hold", "clean")
 # How a program ends that can't use its log any more.
 FAULT = 3
 # What another session has, and whether it does nothing meanwhile, by the name that it goes under.
@@ -71,8 +73,8 @@ class Site:
         return (server or self.server).environment(**{"WULAMERON": str(self.program), **others})
 
     def words(self, command, name, *words):
-        """The words by which a command is run at a log."""
-        return [str(LAUNCHER), command, *words, "--at", f"postgres:{name}"]
+        """The words by which a command is run at a log. It waits long for it where nothing else is said."""
+        return [str(LAUNCHER), command, *waiting(command, words), "--at", f"postgres:{name}"]
 
     def ran(self, command, name, *words, lines=(), server=None, **others):
         """Runs a command to its end."""
@@ -90,12 +92,17 @@ class Site:
 
     def living(self, name, node, server=None, *words, **others):
         """A process that is given line after line, and whose session goes under a name of its own."""
-        words = self.words("run", name, "--node", str(node), "--wait", str(PATIENCE), *words)
+        words = self.words("run", name, "--node", str(node), *words)
         return self.living_of(words, name, node, self.environment(server, **others))
 
     def living_of(self, words, name, node, environment):
         """The same by these words."""
         return Living(self.checks, words, environment | {"PGAPPNAME": f"{name}-{node}"})
+
+
+def waiting(command, words):
+    """The words behind a command, with how long it waits for its log."""
+    return [*words, "--wait", str(PATIENCE)] if command in TAKING and "--wait" not in words else words
 
 
 def is_refused(reply):

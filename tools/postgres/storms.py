@@ -10,7 +10,7 @@ from postgres import texts
 from postgres.checks import SECONDS, until
 from postgres.driver import Client
 from postgres.server import OWNER, PAUSE
-from postgres.site import PATIENCE, PLAIN
+from postgres.site import PLAIN
 from postgres.table import replay
 
 CALLS = 60
@@ -72,7 +72,7 @@ class Process(storm.Process):
 
     def words(self):
         """The words by which it is run."""
-        return self.site.words("run", self.name_of_log, "--node", str(self.node), "--wait", str(PATIENCE))
+        return self.site.words("run", self.name_of_log, "--node", str(self.node))
 
     def live(self):
         """Runs the process to its end, or kills it."""
@@ -154,7 +154,7 @@ def afterwards(site, name, processes, what, server=None):
     alive = (server or site.server).wait_dead(name)
     checks.need(not alive, f"{what}: of nodes whose processes have ended there are {alive}")
     lines = [f"event create {node} 0 afterwards", "list"]
-    ran = site.ran("run", name, "--node", str(node), "--wait", str(PATIENCE), lines=lines, server=server)
+    ran = site.ran("run", name, "--node", str(node), lines=lines, server=server)
     fine = ran.status == 0 and not ran.err and ran.out[:1] and ran.out[0].startswith("ok 0 ")
     checks.need(fine and ran.out[-1] == "1 services", f"{what}, afterwards: {ran}")
     table = replay(checks, server or site.server, name, f"{what}, afterwards")
