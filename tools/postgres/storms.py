@@ -1,11 +1,14 @@
 """Processes of three patterns at one log, a third of which are killed, and what is in the table in the end."""
+import hashlib
 import random
+import signal
 import subprocess
 import threading
 import time
 
 from logs import storm
-from logs.storm import PROCESSES, check_entries, check_given_back, check_listings, check_replies, check_world
+from logs.storm import GIVING_BACK, PREFIXES, PROCESSES
+from logs.storm import check_entries, check_given_back, check_listings, check_replies, check_world
 from postgres import texts
 from postgres.checks import SECONDS, until
 from postgres.driver import Client
@@ -14,7 +17,7 @@ from postgres.site import PLAIN
 from postgres.table import replay
 
 CALLS = 60
-# Refusals that come only where others hold the log for too long.
+# A refusal that comes only where a service is half gone: calls are whole but where a process was killed within one.
 IN_FLUX = "SystemInFlux"
 LAST = """select generation, coalesce((select max(seq) from wulameron.entries e where e.log = l.log
     and e.generation = l.generation), 0) from wulameron.logs l where name = '{}'"""
@@ -123,9 +126,10 @@ def replied(checks, processes, what):
     checks.count("kills", sum(process.is_killed for process in processes))
     for process in processes:
         check_replies(Needs(checks), process, f"{what}, node {process.node}")
-        busy = sum(IN_FLUX in reply for reply in process.replies)
-        checks.count("refused as busy", busy)
-        checks.need(not busy, f"{what}, node {process.node}: {busy} calls were refused since others were at work")
+        in_flux = sum(IN_FLUX in reply for reply in process.replies)
+        checks.count("refused in flux", in_flux)
+        fine = not in_flux or any(map(was_killed, processes))
+        checks.need(fine, f"{what}, node {process.node}: {in_flux} calls were refused as in flux, and nobody was killed")
 
 
 class Needs:
@@ -133,6 +137,27 @@ class Needs:
 
     def __init__(self, checks):
         self.need, self.count = checks.need, checks.count
+
+
+def was_killed(process):
+    """Whether it was killed, and hasn't ended otherwise."""
+    return process.status == -signal.SIGKILL
+
+
+def check_in_flux(checks, processes, table, what):
+    """A call is refused as in flux only on a service of which a killed process had left a part, until it was seen that
+    its session had ended: others gave that back then."""
+    left = set()
+    for process in processes:
+        if was_killed(process):
+            own = [entry for entry in table.entries if entry.node == process.node and entry.at >= process.struck]
+            left |= {entry.hash for entry in own if entry.deed in GIVING_BACK}
+    for process in processes:
+        for line, reply in zip(process.lines, process.replies):
+            if IN_FLUX in reply:
+                pattern, _, _, _, name = line.split()[:5]
+                found = hashlib.sha1(PREFIXES[pattern] + name.encode()).digest()
+                checks.need(found in left, f"{what}, node {process.node}: to {line!r}: {reply}")
 
 
 def replayed(checks, server, processes, name, what):
@@ -160,6 +185,7 @@ def afterwards(site, name, processes, what, server=None):
     table = replay(checks, server or site.server, name, f"{what}, afterwards")
     if table:
         checks.need(not table.world.remains(), f"{what}, afterwards: there is {table.world.remains()}")
+        check_in_flux(checks, processes, table, what)
         check_given_back(checks, processes, table, f"{what}, afterwards")
 
 
