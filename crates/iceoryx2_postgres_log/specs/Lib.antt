@@ -1,2 +1,4 @@
 pub mod Faults
 pub mod Replies
+pub mod Names
+pub mod Patience

@@ -4,4 +4,6 @@
 
 pub mod fault;
 pub mod line;
+pub mod name;
+pub mod patience;
 pub mod reply;
