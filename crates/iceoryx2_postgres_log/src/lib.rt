@@ -6,4 +6,6 @@ pub mod fault;
 pub mod line;
 pub mod name;
 pub mod patience;
+pub mod question;
 pub mod reply;
+pub mod row;

@@ -1,0 +1,120 @@
+//! The texts of the questions: what the client reads. Numbers are decimal, and bytes are hex in lower case.
+
+ghost use Rattle.std.specs.Prelude.{◌≡◌, Bool, IfOk, string_bytes};
+ghost use Rattle.iceoryx2_postgres_log.specs.Questions as text;
+
+use std::alloc::{AllocError, Global};
+
+/// The last number that a row of the log may have: what nothing bounds is read up to it.
+pub const END: u64 = 9_223_372_036_854_775_807;
+
+/// What a flag is to the server.
+fn flag(is: bool) -> &'static str
+    ensures { result.now ≡ text.flag is }
+{
+    if is { "true" } else { "false" }
+}
+
+/// How the session waits, and then where the log of this name stands, which is made where there is none and `makes` says
+/// so. The name is a log's, so nothing in it ends a literal.
+pub fn opening(alloc: Global, name: &str, makes: bool, wait: u64) -> Result<String, AllocError>
+    ensures { IfOk result (λ question. string_bytes question ≡ text.opening name.now makes wait) }
+{
+    let makes = flag(makes);
+    format!(in alloc;
+        "set lock_timeout = {wait}\\; set idle_in_transaction_session_timeout = 2000\\; select wulameron.opened('{name}', {makes});\n\\echo opened :SQLSTATE\n"
+    )
+}
+
+/// Where the log of this name stands.
+pub fn reopening(alloc: Global, name: &str) -> Result<String, AllocError>
+    ensures { IfOk result (λ question. string_bytes question ≡ text.reopening name.now) }
+{
+    format!(in alloc; "select wulameron.opened('{name}', false);\n\\echo opened :SQLSTATE\n")
+}
+
+/// That a row is of this generation of this log.
+fn of_log(alloc: Global, log: u64, generation: u64) -> Result<String, AllocError>
+    ensures { IfOk result (λ part. string_bytes part ≡ text.of_log log generation) }
+{
+    format!(in alloc; "log = {log} and generation = {generation}")
+}
+
+/// The row of this number, with the number of the last row there is, and up to 64 rows behind it, none of them behind
+/// `until`. One statement, so all of it is of one moment.
+fn reading(
+    alloc: Global,
+    log: u64,
+    generation: u64,
+    number: u64,
+    until: u64,
+) -> Result<String, AllocError>
+    ensures { IfOk result (λ question. string_bytes question ≡ text.reading log generation number until) }
+{
+    let rows = of_log(alloc, log, generation)?;
+    format!(in alloc;
+        "select seq || ' ' || encode(chain, 'hex') || ' ' || case when seq > {number} then encode(bytes, 'hex') else (select max(seq)::text from wulameron.entries where {rows}) end from wulameron.entries where {rows} and seq between {number} and {until} order by seq limit 65;\n"
+    )
+}
+
+/// The log's gate is locked, and then it is read from this number on. Where that is refused it is undone.
+pub fn holding(
+    alloc: Global,
+    log: u64,
+    generation: u64,
+    number: u64,
+) -> Result<String, AllocError>
+    ensures { IfOk result (λ question. string_bytes question ≡ text.holding log generation number) }
+{
+    let reading = reading(alloc, log, generation, number, END)?;
+    format!(in alloc;
+        "begin isolation level read committed\\; select pg_advisory_lock('wulameron.logs'::regclass::oid::int, {log})\\; {reading}\\echo held :SQLSTATE\n\\if :ERROR\nrollback;\n\\endif\n"
+    )
+}
+
+/// The log is read from this number on, up to `until`.
+pub fn looking(
+    alloc: Global,
+    log: u64,
+    generation: u64,
+    number: u64,
+    until: u64,
+) -> Result<String, AllocError>
+    ensures { IfOk result (λ question. string_bytes question ≡ text.looking log generation number until) }
+{
+    let reading = reading(alloc, log, generation, number, until)?;
+    format!(in alloc; "{reading}\\echo read :SQLSTATE\n")
+}
+
+/// The bytes become the entry of this number, and that is committed. The next transaction begins at once.
+pub fn appending(
+    alloc: Global,
+    log: u64,
+    generation: u64,
+    number: u64,
+    form: &[u8],
+) -> Result<String, AllocError>
+    ensures { IfOk result (λ question. string_bytes question ≡ text.appending log generation number form.now) }
+{
+    let digits = hex::encode(alloc, form)?;
+    format!(in alloc;
+        "insert into wulameron.entries (log, generation, seq, bytes) values ({log}, {generation}, {number}, '\\x{digits}') returning seq || ' ' || encode(chain, 'hex')\\; commit and chain;\n\\echo appended :SQLSTATE\n"
+    )
+}
+
+/// The gate is let go of, and the transaction ends. Nothing is told.
+pub fn letting_go(alloc: Global, log: u64) -> Result<String, AllocError>
+    ensures { IfOk result (λ question. string_bytes question ≡ text.letting_go log) }
+{
+    format!(in alloc;
+        "select 1 where not pg_advisory_unlock('wulameron.logs'::regclass::oid::int, {log})\\; commit;\n"
+    )
+}
+
+/// The same, and the server waits for five milliseconds.
+pub fn pausing(alloc: Global, log: u64) -> Result<String, AllocError>
+    ensures { IfOk result (λ question. string_bytes question ≡ text.pausing log) }
+{
+    let letting_go = letting_go(alloc, log)?;
+    format!(in alloc; "{letting_go}select pg_sleep(0.005);\n\\echo paused :SQLSTATE\n")
+}
