@@ -1,3 +1,4 @@
 pub mod Told
 pub mod Parts
 pub mod RowParts
+pub mod Heard

@@ -1,10 +1,10 @@
 -- The bytes of lines, line after line.
 use Rattle.std.proofs.Common.{◌≡◌, ℕ, List, [], ◌∷◌, ◌++◌, Option, All, false, nat_eq, refl, ap, sym, ◌∙◌, append_assoc, subst}
 use Rattle.std.specs.List.{starts_with}
-use Rattle.std.specs.Io.KnownBytes.{Consumes}
+use Rattle.std.specs.Io.KnownBytes.{Appends, Consumes}
 use Rattle.std.proofs.KnownBytes.{Consumes-trans}
 use Rattle.std.proofs.lemmas.List.Elements.{All-push}
-use Rattle.iceoryx2_postgres_log.specs.Replies.{told, IsPart, IsRowBefore, Hears}
+use Rattle.iceoryx2_postgres_log.specs.Replies.{told, IsPart, IsRowBefore, Hears, Asks}
 
 pub told-push : (rows : List (List ℕ)) (line : List ℕ) → told (rows ++ line ∷ []) ≡ told rows ++ (line ++ 10 ∷ [])
 told-push [] line = refl
@@ -28,3 +28,11 @@ pub heard_as : (mark : List ℕ) (rows rows' : List (List ℕ)) (end end' : List
     → Hears mark rows end old new → rows ≡ rows' → end ≡ end' → Hears mark rows' end' old new
 heard_as mark rows rows' end end' old new h e f =
     subst (λ l. Hears mark rows' l old new) f (subst (λ l. Hears mark l end old new) e h)
+
+pub asks_as : (question question' mark : List ℕ) (rows rows' : List (List ℕ)) (end end' : List ℕ)
+    (written wrote unread left : Option (List ℕ)) → Appends written wrote question → Hears mark rows end unread left
+    → question ≡ question' → rows ≡ rows' → end ≡ end' → Asks question' mark rows' end' written wrote unread left
+asks_as question question' mark rows rows' end end' written wrote unread left w h q e f = record {
+  asked = subst (Appends written wrote) q w;
+  heard = heard_as mark rows rows' end end' unread left h e f;
+}

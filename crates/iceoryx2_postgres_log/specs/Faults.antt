@@ -61,6 +61,7 @@ fault_text fault.HeldAlready = codes "the log is held already"
 fault_text fault.NotHeld = codes "the log is not held"
 fault_text fault.Unread = codes "entries of others are unread"
 fault_text fault.TooLong = codes "an entry's body has at most 1048576 bytes"
+fault_text fault.IsAMark = codes "a mark is not appended"
 fault_text fault.Moved = codes "the log has moved"
 fault_text fault.NothingSaved = codes "a compaction would save too little"
 fault_text (fault.Refused state) = codes "the database refused (SQLSTATE " ++ state_text state (codes ")")

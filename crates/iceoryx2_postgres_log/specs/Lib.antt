@@ -4,3 +4,6 @@ pub mod Names
 pub mod Patience
 pub mod Rows
 pub mod Questions
+pub mod Standing
+pub mod Pieces
+pub mod Hearing

@@ -28,9 +28,3 @@ AreRows number [] [] = Unit {0}
 AreRows number (line ∷ lines) (row ∷ rows) = IsRow (number + 1) line row × AreRows (number + 1) lines rows
 AreRows number [] (row ∷ rows) = ⊥
 AreRows number (line ∷ lines) [] = ⊥
-
--- The lines tell the place of this number, and then these rows behind it.
-pub record AreAll (number : ℕ) (place : List ℕ) (lines : List (List ℕ)) (rows : List Row) : Type 0 where
-  pub others : List (List ℕ)
-  pub first : lines ≡ place ∷ others
-  pub behind : AreRows number others rows

@@ -2,8 +2,10 @@
 
 ghost use Rattle.std.specs.Prelude.{◌≡◌};
 ghost use Rattle.iceoryx2_postgres_log.specs.Faults.{log_error_of, state_fault, is_over_by};
+ghost use Rattle.iceoryx2_postgres_log.specs.declared.fault.PostgresFault.TheVariants.{OutOfMemory};
 
 use iceoryx2_log::log::LogError;
+use std::alloc::AllocError;
 use std::error::Error;
 use std::fmt;
 
@@ -44,6 +46,8 @@ pub enum PostgresFault {
     Unread,
     /// The body of an entry is longer than any that is read.
     TooLong,
+    /// The entry is a mark, which only a compaction writes.
+    IsAMark,
     /// The log goes on in its next generation.
     Moved,
     /// A compaction would save too little.
@@ -86,6 +90,7 @@ impl fmt::Display for PostgresFault {
             PostgresFault::NotHeld => write!(f, "the log is not held"),
             PostgresFault::Unread => write!(f, "entries of others are unread"),
             PostgresFault::TooLong => write!(f, "an entry's body has at most 1048576 bytes"),
+            PostgresFault::IsAMark => write!(f, "a mark is not appended"),
             PostgresFault::Moved => write!(f, "the log has moved"),
             PostgresFault::NothingSaved => write!(f, "a compaction would save too little"),
             PostgresFault::Refused { state } => write!(
@@ -102,6 +107,14 @@ impl fmt::Display for PostgresFault {
 }
 
 impl Error for PostgresFault {}
+
+impl From<AllocError> for PostgresFault {
+    ghost from_gives = { λ _ e. e ≡ OutOfMemory };
+
+    fn from(_: AllocError) -> Self {
+        Self::OutOfMemory
+    }
+}
 
 impl PostgresFault {
     /// Whether a handle that meets this fault asks nothing any more.

@@ -3,9 +3,13 @@
 #![tactic(auto)]
 
 pub mod fault;
+pub mod hearing;
 pub mod line;
 pub mod name;
+mod number;
 pub mod patience;
+pub mod piece;
 pub mod question;
 pub mod reply;
 pub mod row;
+pub mod standing;

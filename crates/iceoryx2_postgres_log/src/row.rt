@@ -42,8 +42,8 @@ impl Row {
     }
 }
 
-/// The text before a sum.
-fn front(alloc: Global, number: u64) -> Result<String, AllocError>
+/// The text before the sum in the place of this number.
+pub fn place_front(alloc: Global, number: u64) -> Result<String, AllocError>
     ensures { IfOk result (λ text. string_bytes text ≡ decimal number ++ codes " ") }
 {
     format!(in alloc; "{number} ")
@@ -53,7 +53,7 @@ fn front(alloc: Global, number: u64) -> Result<String, AllocError>
 pub fn is_place(alloc: Global, number: u64, text: &[u8]) -> Result<bool, AllocError>
     ensures { IfOk result (λ is. IsTrue is → IsPlace number text.now) }
 {
-    let front = front(alloc, number)?;
+    let front = place_front(alloc, number)?;
     match behind(text, front.as_bytes()) {
         None => Ok(false),
         Some(sum) => Ok(sum.len() == SUM_LENGTH),
@@ -64,7 +64,7 @@ pub fn is_place(alloc: Global, number: u64, text: &[u8]) -> Result<bool, AllocEr
 pub fn row_of(alloc: Global, number: u64, line: &[u8]) -> Result<Option<Row>, AllocError>
     ensures { IfOk result (λ found. IfSome found (IsRow number line.now)) }
 {
-    let front = front(alloc, number)?;
+    let front = place_front(alloc, number)?;
     let Some(rest) = behind(line, front.as_bytes()) else {
         return Ok(None);
     };

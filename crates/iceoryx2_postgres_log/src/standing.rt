@@ -1,0 +1,139 @@
+//! Where a handle stands in a log, and how the server tells it.
+
+ghost use Rattle.std.specs.Prelude.{◌≡◌, ◌++◌, IfOk, IfErr, codes, string_bytes};
+ghost use Rattle.iceoryx2_postgres_log.specs.Rows.{place_text};
+ghost use Rattle.iceoryx2_postgres_log.specs.Standing as spec;
+ghost use Rattle.iceoryx2_postgres_log.specs.Standing.{IsStart, IsOfRows};
+
+use crate::fault::PostgresFault;
+use crate::line::{Line, behind};
+use crate::number::number_before;
+use crate::row::{SUM_LENGTH, place_front};
+use std::alloc::{AllocError, Global};
+
+/// The version of the tables.
+pub const VERSION: u64 = 1;
+
+/// Where a handle stands: behind which entry of which generation of which log.
+#[derive(Debug)]
+pub struct Standing {
+    /// The log's number at the server.
+    pub log: u64,
+    pub generation: u64,
+    /// With which number the counter of services begins in this generation.
+    pub counter: u64,
+    /// How many entries of the generation are its snapshot.
+    pub snapshot: u64,
+    /// The number of the last entry that was taken over or appended: 0 before the first one.
+    pub number: u64,
+    /// What the server tells of it: its number, and the sum of all rows up to it.
+    pub place: Line,
+}
+
+// Written out, so that a proof of what lets one go doesn't take its fields apart.
+impl Drop for Standing {
+    fn drop(self) {
+        let Standing {
+            log: _,
+            generation: _,
+            counter: _,
+            snapshot: _,
+            number: _,
+            place: _,
+        } = self;
+    }
+}
+
+/// The numbers of a row that tells a start.
+#[derive(Clone, Copy)]
+struct Start {
+    log: u64,
+    generation: u64,
+    counter: u64,
+    snapshot: u64,
+}
+
+/// The four numbers behind the version.
+fn start_of(text: &[u8]) -> Option<Start> {
+    let (log, rest) = number_before(text)?;
+    let (generation, rest) = number_before(rest)?;
+    let (counter, rest) = number_before(rest)?;
+    let (snapshot, _chain) = number_before(rest)?;
+    Some(Start {
+        log,
+        generation,
+        counter,
+        snapshot,
+    })
+}
+
+/// What a row that tells this start has before the sum.
+fn front(alloc: Global, start: &Start) -> Result<String, AllocError>
+    ensures { IfOk result (λ text. string_bytes text
+        ≡ spec.start_front start.now.log start.now.generation start.now.counter start.now.snapshot) }
+{
+    let Start {
+        log,
+        generation,
+        counter,
+        snapshot,
+    } = start;
+    format!(in alloc; "1 {log} {generation} {counter} {snapshot} ")
+}
+
+/// The place before the first entry.
+fn first_place(alloc: Global, sum: &[u8]) -> Result<Line, AllocError>
+    ensures { IfOk result (λ place. place ≡ place_text 0 sum.now) }
+{
+    let front = place_front(alloc, 0)?;
+    let mut place = Vec::from_slice(alloc, front.as_bytes())?;
+    place.extend_from_slice(sum)?;
+    Ok(Line::new(place))
+}
+
+/// Before the first entry, as this row tells it. `AnotherVersion` where it begins with the number of another one, and
+/// `NotUnderstood` where it tells no start.
+pub fn standing_of(alloc: Global, row: &[u8]) -> Result<Standing, PostgresFault>
+    ensures ok { IfOk result (IsStart row.now) }
+    ensures err { IfErr result IsOfRows }
+{
+    let Some((version, rest)) = number_before(row) else {
+        return Err(PostgresFault::NotUnderstood);
+    };
+    if version != VERSION {
+        return Err(PostgresFault::AnotherVersion { found: version });
+    }
+    let Some(start) = start_of(rest) else {
+        return Err(PostgresFault::NotUnderstood);
+    };
+    let Ok(front) = front(alloc, &start) else {
+        return Err(PostgresFault::OutOfMemory);
+    };
+    let Some(sum) = behind(row, front.as_bytes()) else {
+        return Err(PostgresFault::NotUnderstood);
+    };
+    if sum.len() != SUM_LENGTH {
+        return Err(PostgresFault::NotUnderstood);
+    }
+    let Ok(place) = first_place(alloc, sum) else {
+        return Err(PostgresFault::OutOfMemory);
+    };
+    Ok(Standing {
+        log: start.log,
+        generation: start.generation,
+        counter: start.counter,
+        snapshot: start.snapshot,
+        number: 0,
+        place,
+    })
+}
+
+/// Whether this is the start of a later generation of the same log.
+pub fn is_later(at: &Standing, start: &Standing) -> bool
+    ensures { result ≡ spec.is_later at.now start.now }
+{
+    if at.log != start.log {
+        return false;
+    }
+    at.generation < start.generation
+}
