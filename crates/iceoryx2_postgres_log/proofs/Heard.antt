@@ -17,4 +17,4 @@ pub refused_append : (at : Standing) (number : ℕ) (form : List ℕ) (written w
 refused_append at number form written wrote unread left rows end result why a known (inl e) r = inl e
 refused_append at number form written wrote unread left rows end result why a known (inr e) (inl n) = absurd (known (e ∙ n))
 refused_append at number form written wrote unread left rows end result why a known (inr e) (inr r) =
-    inr (record { rows = rows; end = end; asks = a; refuses = subst (Refuses (codes "appended") rows end) (sym e) r; })
+    inr (record { rows = rows; end = end; asks = a; refuses = subst (Refuses (codes "appended") rows end) (sym e) r })

@@ -2,3 +2,4 @@ pub mod Told
 pub mod Parts
 pub mod RowParts
 pub mod Heard
+pub mod Rows

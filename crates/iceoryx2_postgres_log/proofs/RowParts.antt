@@ -1,12 +1,12 @@
 -- The parts of a row's line.
-use Rattle.std.proofs.Common.{◌≡◌, ℕ, List, [], ◌∷◌, ◌++◌, refl, ap, sym, ◌∙◌, append_assoc, take-append-drop, decimal, codes, length, drop, Ok}
+use Rattle.std.proofs.Common.{◌≡◌, ℕ, List, [], ◌∷◌, ◌++◌, ap, sym, ◌∙◌, append_assoc, decimal, codes, length, Ok}
 use Rattle.std.specs.List.{IsSplitAt}
 use Rattle.hex.specs.Hex.{decode_of}
 use Rattle.iceoryx2_postgres_log.specs.declared.row.Row.{Row}
-use Rattle.std.proofs.Common.{◌+◌, ◌≤◌, ◌<◌, Option, subst, take, get_or, arith, length-take-le}
+use Rattle.std.proofs.Common.{◌+◌, ◌<◌, subst, take, get_or, arith, length-take-le}
 use Rattle.std.proofs.lemmas.List.{take_more}
 use Rattle.iceoryx2_postgres_log.proofs.Parts.{parts_of}
-use Rattle.iceoryx2_postgres_log.specs.Rows.{place_text, IsPlace, IsRow, AreRows}
+use Rattle.iceoryx2_postgres_log.specs.Rows.{IsPlace, IsRow, AreRows}
 
 pub place_is : (number : ℕ) (text front sum : List ℕ) → front ≡ decimal number ++ codes " " → text ≡ front ++ sum
     → length sum ≡ 64 → IsPlace number text

@@ -1,5 +1,5 @@
 -- Why a log in a database refused: what it comes from, what a log answers, and the texts.
-use Rattle.std.specs.Prelude.{ℕ, Bool, true, false, List, ◌++◌, codes, decimal, get_or, bytes_eq, if◌then◌else◌}
+use Rattle.std.specs.Prelude.{◌≡◌, ◌⊎◌, ℕ, Bool, true, false, List, ◌++◌, codes, decimal, get_or, bytes_eq, if◌then◌else◌}
 use Rattle.std.specs.Char.{encode_utf8}
 use Rattle.iceoryx2_log.specs.declared.log.LogError.{LogError}
 use Rattle.iceoryx2_log.specs.declared.log.LogError.TheVariants as log
@@ -28,6 +28,10 @@ is_over_by fault.ReadOnly = true
 is_over_by fault.AnotherHistory = true
 is_over_by (fault.Refused state) = true
 is_over_by other = false
+
+-- There was no memory, or the handle asks nothing any more.
+abbrev pub IsGrave : PostgresFault → Type 0
+IsGrave why = (why ≡ fault.OutOfMemory) ⊎ (is_over_by why ≡ true)
 
 -- what a log answers
 abbrev pub log_error_of : PostgresFault → LogError

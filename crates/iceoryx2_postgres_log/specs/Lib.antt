@@ -7,3 +7,5 @@ pub mod Questions
 pub mod Standing
 pub mod Pieces
 pub mod Hearing
+pub mod First
+pub mod Handle

@@ -1,5 +1,5 @@
 -- A piece of a log, as the rows of a reply tell it.
-use Rattle.std.specs.Prelude.{◌≡◌, ℕ, ◌+◌, ◌<◌, ◌≤◌, min, List, ◌∷◌, ◌++◌, codes, decimal, length}
+use Rattle.std.specs.Prelude.{◌≡◌, ℕ, ◌+◌, ◌<◌, ◌≤◌, min, List, ◌∷◌, ◌++◌, decimal, length}
 use Rattle.iceoryx2_postgres_log.specs.declared.row.Row.{Row}
 use Rattle.iceoryx2_postgres_log.specs.Rows.{AreRows}
 

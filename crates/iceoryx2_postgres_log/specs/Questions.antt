@@ -3,6 +3,10 @@ use Rattle.std.specs.Prelude.{ℕ, Bool, true, false, List, ◌++◌, codes, dec
 use Rattle.hex.specs.Hex.{encode_lower}
 use Rattle.iceoryx2_postgres_log.specs.declared.question.TheConstants.{END}
 
+-- what nothing bounds is read up to this number
+abbrev pub end : ℕ
+end = END
+
 -- ---- where the log of a name stands
 
 abbrev pub flag : Bool → List ℕ

@@ -1,7 +1,5 @@
 -- Where a handle stands in a log, and how the server tells it.
-use Rattle.std.specs.Prelude.{◌≡◌, ℕ, Bool, true, false, if◌then◌else◌, nat_eq, nat_lt, List, ◌++◌, codes, decimal, length}
-use Rattle.iceoryx2_postgres_log.specs.declared.fault.PostgresFault.{PostgresFault}
-use Rattle.iceoryx2_postgres_log.specs.declared.fault.PostgresFault.TheVariants as fault
+use Rattle.std.specs.Prelude.{◌≡◌, ℕ, Bool, false, if◌then◌else◌, nat_eq, nat_lt, List, ◌++◌, codes, decimal, length}
 use Rattle.iceoryx2_postgres_log.specs.declared.standing.Standing.{Standing}
 use Rattle.iceoryx2_postgres_log.specs.declared.row.TheConstants.{SUM_LENGTH}
 use Rattle.iceoryx2_postgres_log.specs.Rows.{place_text}
@@ -23,11 +21,3 @@ pub record IsStart (row : List ℕ) (at : Standing) : Type 0 where
 -- whether it is before the first entry of a later generation of the same log
 abbrev pub is_later : Standing → Standing → Bool
 is_later at start = if nat_eq at.log start.log then nat_lt at.generation start.generation else false
-
--- What the rows of a reply are refused for.
-abbrev pub IsOfRows : PostgresFault → Type 0
-IsOfRows fault.OutOfMemory = Unit {0}
-IsOfRows fault.NotUnderstood = Unit {0}
-IsOfRows fault.AnotherHistory = Unit {0}
-IsOfRows (fault.AnotherVersion found) = Unit {0}
-IsOfRows other = ⊥

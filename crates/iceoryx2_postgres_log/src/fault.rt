@@ -3,6 +3,8 @@
 ghost use Rattle.std.specs.Prelude.{◌≡◌};
 ghost use Rattle.iceoryx2_postgres_log.specs.Faults.{log_error_of, state_fault, is_over_by};
 ghost use Rattle.iceoryx2_postgres_log.specs.declared.fault.PostgresFault.TheVariants.{OutOfMemory};
+ghost use Rattle.iceoryx2_postgres_log.specs.declared.fault.PostgresFault.TheVariants as fault;
+ghost use Rattle.iceoryx2_log.specs.declared.log.LogError.TheVariants as error;
 
 use iceoryx2_log::log::LogError;
 use std::alloc::AllocError;
@@ -149,10 +151,13 @@ pub fn fault_of_state(state: [u8; 5]) -> PostgresFault
 }
 
 /// What a log answers where its database refused.
-pub fn log_error(fault: PostgresFault) -> LogError
-    ensures { result ≡ log_error_of fault }
+pub fn log_error(why: PostgresFault) -> LogError
+    ensures value { result ≡ log_error_of why }
+    ensures busy { result ≡ error.Busy → why ≡ fault.Busy }
+    ensures memory { result ≡ error.OutOfMemory → why ≡ fault.OutOfMemory }
+    ensures moved { result ≡ error.Moved → why ≡ fault.Moved }
 {
-    match fault {
+    match why {
         PostgresFault::Busy => LogError::Busy,
         PostgresFault::OutOfMemory => LogError::OutOfMemory,
         PostgresFault::Damaged { number: _ } => LogError::Damaged,

@@ -4,10 +4,9 @@ ghost use Rattle.std.specs.Prelude.{◌≡◌, ◌≢◌, ◌⊎◌, ◌∷◌, 
 ghost use Rattle.std.specs.Io.KnownBytes.{Appends};
 ghost use Rattle.iceoryx2_log.specs.Form.{IsForm};
 ghost use Rattle.iceoryx2_postgres_log.specs.declared.fault.PostgresFault.TheVariants as fault;
-ghost use Rattle.iceoryx2_postgres_log.specs.Faults.{is_over_by};
+ghost use Rattle.iceoryx2_postgres_log.specs.Faults.{is_over_by, IsGrave};
 ghost use Rattle.iceoryx2_postgres_log.specs.Questions as text;
 ghost use Rattle.iceoryx2_postgres_log.specs.Replies.{Asks};
-ghost use Rattle.iceoryx2_postgres_log.specs.Standing.{IsOfRows};
 ghost use Rattle.iceoryx2_postgres_log.specs.Hearing.{TellsOpened, IsHeldPiece, IsHeld, IsBusy, IsFreed, IsLook};
 ghost use Rattle.iceoryx2_postgres_log.specs.Hearing.{IsDone, IsRefusedAppend, IsFormFault};
 
@@ -51,14 +50,14 @@ pub fn ask_opened<R: BufRead, W: Write>(
 
 // ---- reading
 
-/// The fault, unless it says that others hold the log or that there was no memory: nobody says that of a reading.
+/// Why the server refused a reading, where it says so; else `NotUnderstood`.
 fn of_reading(why: PostgresFault) -> PostgresFault
-    ensures busy { result ≢ fault.Busy }
-    ensures memory { result ≢ fault.OutOfMemory }
+    ensures { is_over_by result ≡ true }
 {
     match why {
-        PostgresFault::Busy | PostgresFault::OutOfMemory => PostgresFault::NotUnderstood,
-        other => other,
+        PostgresFault::NoSchema | PostgresFault::NoRight | PostgresFault::ReadOnly => why,
+        PostgresFault::Refused { state: _ } => why,
+        _ => PostgresFault::NotUnderstood,
     }
 }
 
@@ -72,7 +71,7 @@ pub fn ask_look<R: BufRead, W: Write>(
 ) -> Result<Piece, PostgresFault>
     ensures ok { IfOk result (IsLook at.now until (W.contents questions.old) (W.contents questions.new)
         (R.remaining replies.old) (R.remaining replies.new)) }
-    ensures busy { result ≢ Err fault.Busy }
+    ensures err { IfErr result IsGrave }
 {
     let Ok(question) = looking(alloc, at.log, at.generation, at.number, until) else {
         return Err(PostgresFault::OutOfMemory);
@@ -92,7 +91,7 @@ pub fn ask_look<R: BufRead, W: Write>(
 /// The rows behind the place, as a hold tells them: an empty row comes first, of the lock.
 fn held_piece(alloc: Global, at: &Standing, rows: &[Line]) -> Result<Piece, PostgresFault>
     ensures ok { IfOk result (IsHeldPiece at.now rows.now) }
-    ensures err { IfErr result IsOfRows }
+    ensures err { IfErr result IsGrave }
 {
     let Some((void, lines)) = rows.split_first() else {
         return Err(PostgresFault::NotUnderstood);
@@ -131,6 +130,7 @@ pub fn ask_hold<R: BufRead, W: Write>(
 ) -> Result<Piece, PostgresFault>
     ensures ok { IfOk result (IsHeld at.now (W.contents questions.old) (W.contents questions.new)
         (R.remaining replies.old) (R.remaining replies.new)) }
+    ensures err { IfErr result (λ why. (why ≡ fault.Busy) ⊎ IsGrave why) }
     ensures busy { result ≡ Err fault.Busy → IsBusy at.now (W.contents questions.old) (W.contents questions.new)
         (R.remaining replies.old) (R.remaining replies.new) }
     ensures memory { result ≡ Err fault.OutOfMemory → IsFreed at.now.log (W.contents questions.old)
@@ -198,7 +198,7 @@ pub fn ask_append<R: BufRead, W: Write>(
         (R.remaining replies.old) (R.remaining replies.new)) }
     ensures memory { result ≡ Err fault.OutOfMemory
         → (questions.new ≡ questions.old) × (replies.new ≡ replies.old) }
-    ensures over { IfErr result (λ why. (why ≡ fault.OutOfMemory) ⊎ (is_over_by why ≡ true)) }
+    ensures over { IfErr result IsGrave }
     ensures refused { IfErr result (λ why. (why ≡ fault.OutOfMemory) ⊎ ((why ≡ fault.Unsure)
         ⊎ IsRefusedAppend at.now number form.now (W.contents questions.old) (W.contents questions.new)
         (R.remaining replies.old) (R.remaining replies.new) why)) }
@@ -234,7 +234,7 @@ pub fn ask_pause<R: BufRead, W: Write>(
         (W.contents questions.old) (W.contents questions.new) (R.remaining replies.old) (R.remaining replies.new)) }
     ensures memory { result ≡ Err fault.OutOfMemory
         → (questions.new ≡ questions.old) × (replies.new ≡ replies.old) }
-    ensures over { IfErr result (λ why. (why ≡ fault.OutOfMemory) ⊎ (is_over_by why ≡ true)) }
+    ensures over { IfErr result IsGrave }
 {
     let Ok(question) = pausing(alloc, log) else {
         return Err(PostgresFault::OutOfMemory);

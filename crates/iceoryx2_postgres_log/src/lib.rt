@@ -3,12 +3,14 @@
 #![tactic(auto)]
 
 pub mod fault;
+pub mod first;
 pub mod hearing;
 pub mod line;
 pub mod name;
 mod number;
 pub mod patience;
 pub mod piece;
+pub mod postgres_log;
 pub mod question;
 pub mod reply;
 pub mod row;

@@ -2,7 +2,7 @@
 
 ghost use Rattle.std.specs.Prelude.{◌≡◌, ◌++◌, ◌<◌, ◌≤◌, ◌+◌, IfOk, IfErr, IsTrue, codes, decimal, length};
 ghost use Rattle.iceoryx2_postgres_log.specs.Rows.{AreRows};
-ghost use Rattle.iceoryx2_postgres_log.specs.Standing.{IsOfRows};
+ghost use Rattle.iceoryx2_postgres_log.specs.Faults.{IsGrave};
 ghost use Rattle.iceoryx2_postgres_log.specs.Pieces.{IsPiece, IsWhole, TellsLast};
 
 use crate::fault::PostgresFault;
@@ -29,9 +29,18 @@ impl Drop for Piece {
     }
 }
 
+impl Piece {
+    pub fn into_parts(self) -> (u64, VecDeque<Row>)
+        ensures { result ≡ (self.last, self.rows) }
+    {
+        let Piece { last, rows } = self;
+        (last, rows)
+    }
+}
+
 /// Why the first line isn't the place: it tells another one of this number, or something else.
 fn why_elsewhere(number: u64, first: &[u8]) -> PostgresFault
-    ensures { IsOfRows result }
+    ensures { IsGrave result }
 {
     match number_before(first) {
         None => PostgresFault::NotUnderstood,
@@ -46,14 +55,9 @@ fn why_elsewhere(number: u64, first: &[u8]) -> PostgresFault
 }
 
 /// The number of the last row, which the first line tells behind the place.
-fn last_of(
-    alloc: Global,
-    number: u64,
-    place: &[u8],
-    first: &[u8],
-) -> Result<u64, PostgresFault>
+fn last_of(alloc: Global, number: u64, place: &[u8], first: &[u8]) -> Result<u64, PostgresFault>
     ensures ok { IfOk result (TellsLast place.now first.now) }
-    ensures err { IfErr result IsOfRows }
+    ensures err { IfErr result IsGrave }
 {
     let Some(rest) = behind(first, place) else {
         return Err(why_elsewhere(number, first));
@@ -74,13 +78,9 @@ fn last_of(
 }
 
 /// The rows of the numbers behind this one, where each line tells the next.
-fn rows_behind(
-    alloc: Global,
-    number: u64,
-    lines: &[Line],
-) -> Result<VecDeque<Row>, PostgresFault>
+fn rows_behind(alloc: Global, number: u64, lines: &[Line]) -> Result<VecDeque<Row>, PostgresFault>
     ensures ok { IfOk result (λ rows. AreRows number lines.now rows.items) }
-    ensures err { IfErr result IsOfRows }
+    ensures err { IfErr result IsGrave }
 {
     let mut rows = VecDeque::new(alloc);
     let mut last = number;
@@ -129,7 +129,7 @@ pub fn piece_of(
     lines: &[Line],
 ) -> Result<Piece, PostgresFault>
     ensures ok { IfOk result (λ piece. IsPiece number until place.now lines.now piece.last piece.rows.items) }
-    ensures err { IfErr result IsOfRows }
+    ensures err { IfErr result IsGrave }
 {
     let Some((first, others)) = lines.split_first() else {
         return Err(PostgresFault::AnotherHistory);

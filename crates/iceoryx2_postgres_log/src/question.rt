@@ -58,12 +58,7 @@ fn reading(
 }
 
 /// The log's gate is locked, and then it is read from this number on. Where that is refused it is undone.
-pub fn holding(
-    alloc: Global,
-    log: u64,
-    generation: u64,
-    number: u64,
-) -> Result<String, AllocError>
+pub fn holding(alloc: Global, log: u64, generation: u64, number: u64) -> Result<String, AllocError>
     ensures { IfOk result (λ question. string_bytes question ≡ text.holding log generation number) }
 {
     let reading = reading(alloc, log, generation, number, END)?;

@@ -1,9 +1,9 @@
 //! Where a handle stands in a log, and how the server tells it.
 
-ghost use Rattle.std.specs.Prelude.{◌≡◌, ◌++◌, IfOk, IfErr, codes, string_bytes};
+ghost use Rattle.std.specs.Prelude.{◌≡◌, ◌++◌, IfOk, codes, string_bytes};
 ghost use Rattle.iceoryx2_postgres_log.specs.Rows.{place_text};
 ghost use Rattle.iceoryx2_postgres_log.specs.Standing as spec;
-ghost use Rattle.iceoryx2_postgres_log.specs.Standing.{IsStart, IsOfRows};
+ghost use Rattle.iceoryx2_postgres_log.specs.Standing.{IsStart};
 
 use crate::fault::PostgresFault;
 use crate::line::{Line, behind};
@@ -94,8 +94,7 @@ fn first_place(alloc: Global, sum: &[u8]) -> Result<Line, AllocError>
 /// Before the first entry, as this row tells it. `AnotherVersion` where it begins with the number of another one, and
 /// `NotUnderstood` where it tells no start.
 pub fn standing_of(alloc: Global, row: &[u8]) -> Result<Standing, PostgresFault>
-    ensures ok { IfOk result (IsStart row.now) }
-    ensures err { IfErr result IsOfRows }
+    ensures { IfOk result (IsStart row.now) }
 {
     let Some((version, rest)) = number_before(row) else {
         return Err(PostgresFault::NotUnderstood);

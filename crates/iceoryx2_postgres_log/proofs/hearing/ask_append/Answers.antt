@@ -1,4 +1,4 @@
-use Rattle.std.proofs.Common.{◌≡◌, ◌∙◌, subst, refl, inr, List, ℕ}
+use Rattle.std.proofs.Common.{◌∙◌, subst, refl, inr}
 use Rattle.iceoryx2_postgres_log.specs.Rows.{IsPlace}
 use Rattle.iceoryx2_postgres_log.proofs.Told.{asks_as}
 use Rattle.iceoryx2_postgres_log.proofs.Heard.{refused_append}

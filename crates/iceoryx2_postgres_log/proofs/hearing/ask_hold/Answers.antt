@@ -1,4 +1,4 @@
-use Rattle.std.proofs.Common.{◌≡◌, ◌∙◌, subst, refl, List, ℕ}
+use Rattle.std.proofs.Common.{◌∙◌, subst, refl, List, ℕ}
 use Rattle.iceoryx2_postgres_log.specs.Hearing.{IsHeldPiece}
 use Rattle.iceoryx2_postgres_log.proofs.Told.{asks_as}
 use Rattle.iceoryx2_postgres_log.proofs.hearing.ask_hold.Goals as goal

@@ -1,4 +1,4 @@
-use Rattle.std.proofs.Common.{◌≡◌, ◌+◌, sym, subst, arith}
+use Rattle.std.proofs.Common.{◌≡◌, ◌+◌, subst, arith}
 use Rattle.iceoryx2_postgres_log.specs.Rows.{IsRow}
 use Rattle.iceoryx2_postgres_log.proofs.RowParts.{rows_next}
 use Rattle.iceoryx2_postgres_log.proofs.piece.rows_behind.Goals as goal

@@ -1,8 +1,8 @@
 use Rattle.std.proofs.Common.{◌++◌, ap, ◌∙◌, refl}
 use Rattle.iceoryx2_postgres_log.proofs.standing.standing_of.Goals as goal
 
-pub returns-clause-ok : goal.returns-clause-ok
-returns-clause-ok c = record {
+pub returns : goal.returns
+returns c = record {
   sum = c.in-Some-behind.sum.now;
   long = c.if-sum-ne-SUM_LENGTH.false;
   is = c.in-Some-behind.ensures ∙ ap (λ l. l ++ c.in-Some-behind.sum.now) (c.as_bytes.ensures.value ∙ c.in-Ok.ensures);

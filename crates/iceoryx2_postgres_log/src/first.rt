@@ -1,0 +1,67 @@
+//! The entry of the first row that is unread.
+
+ghost use Rattle.std.specs.Prelude.{◌≡◌, ◌≢◌, ◌⊎◌, ◌↔◌, IfOk, IfErr, IsTrue, MatchResult, length};
+ghost use Rattle.iceoryx2_log.specs.declared.entry.Entry as declared;
+ghost use Rattle.iceoryx2_log.specs.declared.entry.Deed.TheVariants as deed;
+ghost use Rattle.iceoryx2_log.specs.Form.{Begins};
+ghost use Rattle.iceoryx2_postgres_log.specs.declared.fault.PostgresFault.TheVariants as fault;
+ghost use Rattle.iceoryx2_postgres_log.specs.First.{Shows, WhyNone};
+
+use crate::fault::PostgresFault;
+use crate::row::Row;
+use iceoryx2_log::entry::{Deed, Entry};
+use iceoryx2_log::form::{EntryError, decode};
+use std::alloc::Global;
+use std::collections::VecDeque;
+
+/// The entry whose byte form these are, of the row of this number. `Damaged` exactly where there is none.
+fn entry_of(alloc: Global, number: u64, form: &[u8]) -> Result<Entry, PostgresFault>
+    ensures is { IfOk result (λ e. Begins form.now e (length form.now)) }
+    ensures only { (e : declared.Entry) → Begins form.now e (length form.now)
+        → MatchResult result (λ found. found ≡ e) (λ why. why ≡ fault.OutOfMemory) }
+    ensures err { IfErr result (λ why. (why ≡ fault.OutOfMemory) ⊎ (why ≡ fault.Damaged number)) }
+{
+    match decode(alloc, form) {
+        Ok((entry, count)) => {
+            if count == form.len() {
+                return Ok(entry);
+            }
+            Err(PostgresFault::Damaged { number })
+        }
+        Err(error) => match error {
+            EntryError::OutOfMemory => Err(PostgresFault::OutOfMemory),
+            EntryError::CutShort => Err(PostgresFault::Damaged { number }),
+            EntryError::Malformed => Err(PostgresFault::Damaged { number }),
+        },
+    }
+}
+
+/// Whether the entry marks that the log goes on in its next generation.
+pub fn is_mark(entry: &Entry) -> bool
+    ensures { IsTrue result ↔ (entry.now.deed ≡ deed.Moved) }
+{
+    match entry.deed {
+        Deed::Moved => true,
+        _ => false,
+    }
+}
+
+/// The entry of the first row, or `None` where there is no row. `Moved` where it is a mark, and `Damaged` exactly where
+/// the row's bytes are no entry's form.
+pub fn first_of(alloc: Global, rows: &VecDeque<Row>) -> Result<Option<Entry>, PostgresFault>
+    ensures ok { IfOk result (λ found. Shows found rows.now.items) }
+    ensures err { IfErr result (WhyNone rows.now.items) }
+{
+    match rows.front() {
+        None => Ok(None),
+        Some(row) => match entry_of(alloc, row.number, row.form.as_slice()) {
+            Err(why) => Err(why),
+            Ok(entry) => {
+                if is_mark(&entry) {
+                    return Err(PostgresFault::Moved);
+                }
+                Ok(Some(entry))
+            }
+        },
+    }
+}
