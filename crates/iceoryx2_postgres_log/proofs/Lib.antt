@@ -3,3 +3,5 @@ pub mod Parts
 pub mod RowParts
 pub mod Heard
 pub mod Rows
+pub mod Inserts
+pub mod Copies

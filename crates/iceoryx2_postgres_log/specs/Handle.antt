@@ -115,9 +115,13 @@ pub record Rejoined (name : List ℕ) (at start : Standing) (written wrote unrea
 
 -- ---- compaction
 
+-- from how many entries on one to so many is worth it
+abbrev pub worth : ℕ → ℕ
+worth count = min (count * 8) (2 ^ 64 - 1)
+
 -- from how many entries on the first one is tried behind a snapshot of so many
 abbrev pub first_tried : ℕ → ℕ
-first_tried snapshot = min (min (snapshot + 1) (2 ^ 64 - 1) * 8) (2 ^ 64 - 1)
+first_tried snapshot = worth (min (snapshot + 1) (2 ^ 64 - 1))
 
 -- from how many entries on one is tried again that was put off at this number
 abbrev pub later : ℕ → ℕ

@@ -1,5 +1,5 @@
 -- What a question comes to, by what was written and by the lines that were read.
-use Rattle.std.specs.Prelude.{◌≡◌, ◌⊎◌, ℕ, List, [], ◌∷◌, Option, Some, None, codes, length}
+use Rattle.std.specs.Prelude.{◌≡◌, ◌⊎◌, ◌≤◌, ℕ, List, [], ◌∷◌, Option, Some, None, codes, length}
 use Rattle.std.specs.Io.KnownBytes.{Appends}
 use Rattle.iceoryx2_postgres_log.specs.declared.fault.PostgresFault.{PostgresFault}
 use Rattle.iceoryx2_postgres_log.specs.declared.fault.PostgresFault.TheVariants as fault
@@ -44,11 +44,11 @@ pub record IsHeld (at : Standing) (written wrote unread left : Option (List ℕ)
   pub asks : Asks (text.holding at.log at.generation at.number) (codes "held") rows text.held written wrote unread left
   pub is : IsHeldPiece at rows piece
 
--- The server told that another had the gate all of the time: by one row, and by 55P03.
+-- The server told that it waited for another all of the time: by 55P03, and the gate is given back if it was had.
 pub record IsBusy (at : Standing) (written wrote unread left : Option (List ℕ)) : Type 0 where
   pub rows : List (List ℕ)
   pub asks : Asks (text.holding at.log at.generation at.number) (codes "held") rows text.busy written wrote unread left
-  pub one : length rows ≡ 1
+  pub few : length rows ≤ 2
 
 -- What is written ends with a letting go.
 pub record LetsGo (log : ℕ) (wrote : Option (List ℕ)) : Type 0 where

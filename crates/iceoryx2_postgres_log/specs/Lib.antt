@@ -9,3 +9,4 @@ pub mod Pieces
 pub mod Hearing
 pub mod First
 pub mod Handle
+pub mod Compacting

@@ -1,5 +1,5 @@
 -- The texts of the questions, and of the replies' last lines.
-use Rattle.std.specs.Prelude.{ℕ, Bool, true, false, List, ◌++◌, codes, decimal}
+use Rattle.std.specs.Prelude.{ℕ, ◌+◌, Bool, true, false, List, [], ◌∷◌, ◌++◌, codes, decimal}
 use Rattle.hex.specs.Hex.{encode_lower}
 use Rattle.iceoryx2_postgres_log.specs.declared.question.TheConstants.{END}
 
@@ -52,7 +52,8 @@ abbrev pub holding : (log generation number : ℕ) → List ℕ
 holding log generation number =
     codes "begin isolation level read committed\\; select pg_advisory_lock('wulameron.logs'::regclass::oid::int, "
     ++ (decimal log ++ (codes ")\\; " ++ (reading log generation number END
-    ++ codes "\\echo held :SQLSTATE\n\\if :ERROR\nrollback;\n\\endif\n")))
+    ++ (codes "\\echo held :SQLSTATE\n\\if :ERROR\nrollback;\nselect wulameron.let_go("
+    ++ (decimal log ++ codes ");\n\\endif\n")))))
 
 abbrev pub held : List ℕ
 held = codes "held 00000"
@@ -88,3 +89,58 @@ pausing log = letting_go log ++ codes "select pg_sleep(0.005);\n\\echo paused :S
 
 abbrev pub paused : List ℕ
 paused = codes "paused 00000"
+
+-- ---- compaction: a mark, and the row before the first entry of the next generation
+
+abbrev pub row_values : (log generation number : ℕ) → (form : List ℕ) → List ℕ
+row_values log generation number form =
+    codes "(" ++ (decimal log ++ (codes ", " ++ (decimal generation ++ (codes ", " ++ (decimal number
+    ++ (codes ", '\\x" ++ (encode_lower form ++ codes "')")))))))
+
+abbrev pub moving : (log generation number later : ℕ) → (form : List ℕ) → List ℕ
+moving log generation number later form =
+    codes "insert into wulameron.entries (log, generation, seq, bytes) values "
+    ++ (row_values log generation number form ++ (codes ", (" ++ (decimal log ++ (codes ", " ++ (decimal later
+    ++ codes ", 0, '') returning seq || ' ' || encode(chain, 'hex');\n\\echo moved :SQLSTATE\n")))))
+
+abbrev pub moved : List ℕ
+moved = codes "moved 00000"
+
+-- ---- the snapshot's entries, behind a number
+
+abbrev pub inserting : (log generation number : ℕ) → (form : List ℕ) → List ℕ
+inserting log generation number form =
+    codes "insert into wulameron.entries (log, generation, seq, bytes) values (" ++ (decimal log
+    ++ (codes ", " ++ (decimal generation
+    ++ (codes ", " ++ (decimal number
+    ++ (codes ", '\\x" ++ (encode_lower form
+    ++ codes "') returning seq || ' ' || encode(chain, 'hex') || ' ' || encode(bytes, 'hex')\\; ")))))))
+
+abbrev pub insertings : (log generation number : ℕ) → (forms : List (List ℕ)) → List ℕ
+insertings log generation number [] = []
+insertings log generation number (form ∷ forms) =
+    inserting log generation (number + 1) form ++ insertings log generation (number + 1) forms
+
+abbrev pub copying : (log generation number : ℕ) → (forms : List (List ℕ)) → List ℕ
+copying log generation number forms =
+    insertings log generation number forms ++ codes "select 1 where false;\n\\echo copied :SQLSTATE\n"
+
+abbrev pub copied : List ℕ
+copied = codes "copied 00000"
+
+-- ---- the next generation becomes the current one, and that is committed
+
+abbrev pub going_on : (log generation snapshot : ℕ) → List ℕ
+going_on log generation snapshot =
+    codes "select wulameron.go_on(" ++ (decimal log
+    ++ (codes ", " ++ (decimal generation
+    ++ (codes ", " ++ (decimal snapshot
+    ++ codes ")\\; commit and chain;\n\\echo went :SQLSTATE\n")))))
+
+abbrev pub went : List ℕ
+went = codes "went 00000"
+
+-- ---- nothing of it is done: nothing is told
+
+abbrev pub undoing : List ℕ
+undoing = codes "rollback and chain;\n"

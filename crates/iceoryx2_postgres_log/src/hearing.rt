@@ -51,7 +51,7 @@ pub fn ask_opened<R: BufRead, W: Write>(
 // ---- reading
 
 /// Why the server refused a reading, where it says so; else `NotUnderstood`.
-fn of_reading(why: PostgresFault) -> PostgresFault
+pub fn of_reading(why: PostgresFault) -> PostgresFault
     ensures { is_over_by result ≡ true }
 {
     match why {
@@ -120,8 +120,8 @@ pub fn write_letting_go<W: Write>(log: u64, questions: &mut W) -> Result<(), Pos
     }
 }
 
-/// Holds the log, and reads the rows behind the place, or the first of them. `Busy` where another session held it for as
-/// long as the server waits. What was locked and can't be taken for held is let go of.
+/// Holds the log, and reads the rows behind the place, or the first of them. `Busy` where the server waited for
+/// another session as long as it does. What was locked and can't be taken for held is let go of.
 pub fn ask_hold<R: BufRead, W: Write>(
     alloc: Global,
     at: &Standing,
@@ -142,7 +142,7 @@ pub fn ask_hold<R: BufRead, W: Write>(
     let Ok(reply) = ask(alloc, question.as_bytes(), b"held", questions, replies) else {
         return Err(PostgresFault::SessionEnded);
     };
-    if reply.is_one_row(b"held 55P03") {
+    if reply.is_short(b"held 55P03") {
         return Err(PostgresFault::Busy);
     }
     if !reply.ends(b"held 00000") {
@@ -172,7 +172,7 @@ pub fn form_of(alloc: Global, entry: &Entry) -> Result<Vec<u8>, PostgresFault>
 }
 
 /// Why the server refused, where it says so; else `Unsure`.
-fn of_append(why: PostgresFault) -> PostgresFault
+pub fn of_append(why: PostgresFault) -> PostgresFault
     ensures over { is_over_by result ≡ true }
     ensures known { result ≢ fault.NotUnderstood }
     ensures same { (result ≡ fault.Unsure) ⊎ (result ≡ why) }

@@ -2,6 +2,7 @@
 //! stream, and the lines of the replies are read from another.
 #![tactic(auto)]
 
+mod compacting;
 pub mod fault;
 pub mod first;
 pub mod hearing;

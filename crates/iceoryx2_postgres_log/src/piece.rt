@@ -78,7 +78,11 @@ fn last_of(alloc: Global, number: u64, place: &[u8], first: &[u8]) -> Result<u64
 }
 
 /// The rows of the numbers behind this one, where each line tells the next.
-fn rows_behind(alloc: Global, number: u64, lines: &[Line]) -> Result<VecDeque<Row>, PostgresFault>
+pub fn rows_behind(
+    alloc: Global,
+    number: u64,
+    lines: &[Line],
+) -> Result<VecDeque<Row>, PostgresFault>
     ensures ok { IfOk result (λ rows. AreRows number lines.now rows.items) }
     ensures err { IfErr result IsGrave }
 {

@@ -4,13 +4,14 @@
 //! asks, byte for byte, what of the reply it reads, and what it makes of where the handle stands.
 
 ghost use Rattle.std.specs.Prelude.{◌≡◌, ◌≢◌, ◌+◌, ◌*◌, ◌<◌, ◌≤◌, ◌⊎◌, ◌∷◌, [], Ok, Err, Some, None, true, false};
-ghost use Rattle.std.specs.Prelude.{IfOk, IfErr, IfSome, OnOk, OnErr, IsTrue, codes, nat_lt, nat_le, string_bytes};
+ghost use Rattle.std.specs.Prelude.{IfOk, IfErr, IfSome, OnOk, OnErr, IsTrue, codes, length, nat_lt, string_bytes};
 ghost use Rattle.std.specs.Io.KnownBytes.{Appends};
 ghost use Rattle.iceoryx2_log.specs.declared.entry.Deed.TheVariants as deed;
 ghost use Rattle.iceoryx2_log.specs.declared.log.LogError.TheVariants as error;
 ghost use Rattle.iceoryx2_log.specs.Log.{is_shown};
 ghost use Rattle.iceoryx2_postgres_log.specs.declared.fault.PostgresFault.TheVariants as fault;
 ghost use Rattle.iceoryx2_postgres_log.specs.declared.postgres_log.Mode.TheVariants as way;
+ghost use Rattle.iceoryx2_postgres_log.specs.Compacting.{IsCompacted, Undoes};
 ghost use Rattle.iceoryx2_postgres_log.specs.Faults.{is_over_by, log_error_of, IsGrave};
 ghost use Rattle.iceoryx2_postgres_log.specs.First.{Shows, ShowsMark, IsDamaged};
 ghost use Rattle.iceoryx2_postgres_log.specs.Hearing.{IsOpened, IsHeld, IsBusy, IsFreed, IsLook};
@@ -21,6 +22,7 @@ ghost use Rattle.iceoryx2_postgres_log.specs.Replies.{Asks};
 ghost use Rattle.iceoryx2_postgres_log.specs.Handle as spec;
 ghost use Rattle.iceoryx2_postgres_log.specs.Handle.{IsErrorOf, ReadsOn, Appended, Rejoined, MayAppend};
 
+use crate::compacting::ask_compact;
 use crate::fault::{PostgresFault, log_error};
 use crate::first::{first_of, is_mark};
 use crate::hearing::{
@@ -97,6 +99,13 @@ fn first_tried(snapshot: u64) -> u64
     ensures { result ≡ spec.first_tried snapshot }
 {
     snapshot.saturating_add(1).saturating_mul(8)
+}
+
+/// From how many entries on a compaction to so many is worth it.
+fn worth(count: u64) -> u64
+    ensures { result ≡ spec.worth count }
+{
+    count.saturating_mul(8)
 }
 
 impl<R: BufRead, W: Write> PostgresLog<R, W> {
@@ -241,11 +250,10 @@ impl<R, W> PostgresLog<R, W> {
         self.is_shown = false;
     }
 
-    /// Why nothing is appended, where that is so.
-    fn why_not_append(&self, entry: &Entry) -> Option<PostgresFault>
+    /// Why nothing is appended and nothing compacted, where that is so.
+    fn why_unready(&self) -> Option<PostgresFault>
         ensures may { result ≡ None
             → MayAppend self.now.fault self.now.mode self.now.ahead.items self.now.at.number self.now.until }
-        ensures no_mark { result ≡ None → entry.now.deed ≢ deed.Moved }
         ensures over { spec.is_over self.now.fault ≡ true → result ≡ self.now.fault }
     {
         if let Some(why) = self.why_over() {
@@ -253,9 +261,6 @@ impl<R, W> PostgresLog<R, W> {
         }
         if self.mode != Mode::Held {
             return Some(PostgresFault::NotHeld);
-        }
-        if is_mark(entry) {
-            return Some(PostgresFault::IsAMark);
         }
         if !self.ahead.is_empty() {
             return Some(PostgresFault::Unread);
@@ -535,8 +540,11 @@ impl<R: BufRead, W: Write> Log for PostgresLog<R, W> {
         ensures over { spec.is_over self.old.fault ≡ true → self.new ≡ self.old }
         ensures why { IfErr result (λ e. IsErrorOf e self.new.fault) }
     {
-        if let Some(why) = self.why_not_append(entry) {
+        if let Some(why) = self.why_unready() {
             return Err(self.refuse(why));
+        }
+        if is_mark(entry) {
+            return Err(self.refuse(PostgresFault::IsAMark));
         }
         let form = match form_of(self.alloc, entry) {
             Ok(form) => form,
@@ -690,10 +698,60 @@ impl<R: BufRead, W: Write> Log for PostgresLog<R, W> {
         self.at.number >= self.tries_from
     }
 
-    fn compact(&mut self, _snapshot: &[Entry]) -> Result<(), LogError>
-        ensures { (result ≡ Err error.Failed) × (self.new ≡ self.old) }
+    /// One transaction of the session: nobody sees anything of it unless it is committed. `Failed` with no fault where the
+    /// log isn't eight times as long as the snapshot. `Unsure` where the commit was asked for and not told. Another
+    /// attempt is put off by any `Err`.
+    fn compact(&mut self, snapshot: &[Entry]) -> Result<(), LogError>
+        ensures was { OnOk result (MayAppend self.old.fault self.old.mode self.old.ahead.items self.old.at.number
+            self.old.until) }
+        ensures worth { OnOk result (spec.worth (length snapshot.now) ≤ self.old.at.number) }
+        ensures done { OnOk result (IsCompacted self.old.at snapshot.now (W.contents self.old.questions)
+            (W.contents self.new.questions) (R.remaining self.old.replies) (R.remaining self.new.replies)
+            self.new.at) }
+        ensures after { OnOk result (self.new ≡ record self.old {
+          questions = self.new.questions;
+          replies = self.new.replies;
+          at = self.new.at;
+          until = self.new.at.number;
+          tries_from = spec.first_tried self.new.at.snapshot;
+        }) }
+        ensures stays { OnErr result (self.new ≡ record self.old {
+          questions = self.new.questions;
+          replies = self.new.replies;
+          fault = self.new.fault;
+          tries_from = self.new.tries_from;
+        }) }
+        ensures undone { OnErr result ((spec.is_over self.new.fault ≡ true)
+            ⊎ (((self.new.questions ≡ self.old.questions) × (self.new.replies ≡ self.old.replies))
+            ⊎ Undoes (W.contents self.new.questions))) }
+        ensures over { spec.is_over self.old.fault ≡ true → self.new ≡ self.old }
     {
-        Err(LogError::Failed)
+        if let Some(why) = self.why_unready() {
+            return Err(self.refuse(why));
+        }
+        let least = worth(snapshot.len() as u64);
+        if self.at.number < least {
+            self.tries_from = least;
+            return Err(LogError::Failed);
+        }
+        match ask_compact(
+            self.alloc,
+            &self.at,
+            snapshot,
+            &mut self.questions,
+            &mut self.replies,
+        ) {
+            Ok(start) => {
+                self.until = start.number;
+                self.tries_from = first_tried(start.snapshot);
+                self.at = start;
+                Ok(())
+            }
+            Err(why) => {
+                self.tries_from = self.at.number.saturating_add(LATER);
+                Err(self.refuse(why))
+            }
+        }
     }
 
     fn put_off_compaction(&mut self)

@@ -3,6 +3,7 @@
 ghost use Rattle.std.specs.Prelude.{◌≡◌, Bool, IfOk, string_bytes};
 ghost use Rattle.iceoryx2_postgres_log.specs.Questions as text;
 
+use crate::line::Line;
 use std::alloc::{AllocError, Global};
 
 /// The last number that a row of the log may have: what nothing bounds is read up to it.
@@ -57,13 +58,14 @@ fn reading(
     )
 }
 
-/// The log's gate is locked, and then it is read from this number on. Where that is refused it is undone.
+/// The log's gate is locked, and then it is read from this number on. Where that is refused it is undone, and
+/// the gate is given back, which nothing tells.
 pub fn holding(alloc: Global, log: u64, generation: u64, number: u64) -> Result<String, AllocError>
     ensures { IfOk result (λ question. string_bytes question ≡ text.holding log generation number) }
 {
     let reading = reading(alloc, log, generation, number, END)?;
     format!(in alloc;
-        "begin isolation level read committed\\; select pg_advisory_lock('wulameron.logs'::regclass::oid::int, {log})\\; {reading}\\echo held :SQLSTATE\n\\if :ERROR\nrollback;\n\\endif\n"
+        "begin isolation level read committed\\; select pg_advisory_lock('wulameron.logs'::regclass::oid::int, {log})\\; {reading}\\echo held :SQLSTATE\n\\if :ERROR\nrollback;\nselect wulameron.let_go({log});\n\\endif\n"
     )
 }
 
@@ -112,4 +114,93 @@ pub fn pausing(alloc: Global, log: u64) -> Result<String, AllocError>
 {
     let letting_go = letting_go(alloc, log)?;
     format!(in alloc; "{letting_go}select pg_sleep(0.005);\n\\echo paused :SQLSTATE\n")
+}
+
+// ---- compaction
+
+/// A row of the table with these bytes.
+fn row_values(
+    alloc: Global,
+    log: u64,
+    generation: u64,
+    number: u64,
+    form: &[u8],
+) -> Result<String, AllocError>
+    ensures { IfOk result (λ part. string_bytes part ≡ text.row_values log generation number form.now) }
+{
+    let digits = hex::encode(alloc, form)?;
+    format!(in alloc; "({log}, {generation}, {number}, '\\x{digits}')")
+}
+
+/// The form of the mark becomes the entry of this number, and the `later` generation gets its row before the first entry.
+pub fn moving(
+    alloc: Global,
+    log: u64,
+    generation: u64,
+    number: u64,
+    later: u64,
+    form: &[u8],
+) -> Result<String, AllocError>
+    ensures { IfOk result (λ question.
+        string_bytes question ≡ text.moving log generation number later form.now) }
+{
+    let mark = row_values(alloc, log, generation, number, form)?;
+    format!(in alloc;
+        "insert into wulameron.entries (log, generation, seq, bytes) values {mark}, ({log}, {later}, 0, '') returning seq || ' ' || encode(chain, 'hex');\n\\echo moved :SQLSTATE\n"
+    )
+}
+
+/// One statement that makes the bytes the entry of this number.
+fn inserting(
+    alloc: Global,
+    log: u64,
+    generation: u64,
+    number: u64,
+    form: &[u8],
+) -> Result<String, AllocError>
+    ensures { IfOk result (λ part. string_bytes part ≡ text.inserting log generation number form.now) }
+{
+    let digits = hex::encode(alloc, form)?;
+    format!(in alloc;
+        "insert into wulameron.entries (log, generation, seq, bytes) values ({log}, {generation}, {number}, '\\x{digits}') returning seq || ' ' || encode(chain, 'hex') || ' ' || encode(bytes, 'hex')\\; "
+    )
+}
+
+/// The forms become the entries behind this number, in one message.
+pub fn copying(
+    alloc: Global,
+    log: u64,
+    generation: u64,
+    number: u64,
+    forms: &[Line],
+) -> Result<String, AllocError>
+    ensures { IfOk result (λ question. string_bytes question ≡ text.copying log generation number forms.now) }
+{
+    let mut question = String::new(alloc);
+    let mut last = number;
+    for form in forms {
+        let Some(next) = last.checked_add(1) else {
+            return Err(AllocError);
+        };
+        let part = inserting(alloc, log, generation, next, form.as_slice())?;
+        question.push_str(&part)?;
+        last = next;
+    }
+    question.push_str("select 1 where false;\n\\echo copied :SQLSTATE\n")?;
+    Ok(question)
+}
+
+/// The generation becomes the log's current one, with so many entries as its snapshot, and that is committed. The next
+/// transaction begins at once.
+pub fn going_on(
+    alloc: Global,
+    log: u64,
+    generation: u64,
+    snapshot: u64,
+) -> Result<String, AllocError>
+    ensures { IfOk result (λ question. string_bytes question ≡ text.going_on log generation snapshot) }
+{
+    format!(in alloc;
+        "select wulameron.go_on({log}, {generation}, {snapshot})\\; commit and chain;\n\\echo went :SQLSTATE\n"
+    )
 }

@@ -1,7 +1,7 @@
 //! A question, and the lines of its reply.
 
 ghost use Rattle.std.specs.Prelude.{◌≡◌, ◌++◌, ◌∷◌, ◌≢◌, ◌⊎◌, [], Err, IfOk, IfSome, OnOk, OnErr, IsTrue, All};
-ghost use Rattle.std.specs.Prelude.{length};
+ghost use Rattle.std.specs.Prelude.{◌≤◌, length};
 ghost use Rattle.std.specs.Io.KnownBytes.{Appends, Consumes};
 ghost use Rattle.iceoryx2_postgres_log.specs.declared.fault.PostgresFault.TheVariants as fault;
 ghost use Rattle.iceoryx2_postgres_log.specs.Replies.{Hears, IsPart, IsExactly, EndsWith, Refuses};
@@ -58,11 +58,11 @@ impl Reply {
         }
     }
 
-    /// Whether the reply is one row alone, whatever it tells, and this end.
-    pub fn is_one_row(&self, end: &[u8]) -> bool
-        ensures { IsTrue result → (length self.now.rows.items ≡ 1) × (self.now.end ≡ end.now) }
+    /// Whether the reply has at most two rows, whatever they tell, and this end.
+    pub fn is_short(&self, end: &[u8]) -> bool
+        ensures { IsTrue result → (length self.now.rows.items ≤ 2) × (self.now.end ≡ end.now) }
     {
-        if self.rows.len() != 1 {
+        if self.rows.len() > 2 {
             return false;
         }
         is_same(self.end.as_slice(), end)

@@ -44,6 +44,22 @@ impl Drop for Standing {
     }
 }
 
+impl Standing {
+    pub fn into_place(self) -> Line
+        ensures { result ≡ self.place }
+    {
+        let Standing {
+            log: _,
+            generation: _,
+            counter: _,
+            snapshot: _,
+            number: _,
+            place,
+        } = self;
+        place
+    }
+}
+
 /// The numbers of a row that tells a start.
 #[derive(Clone, Copy)]
 struct Start {
@@ -82,7 +98,7 @@ fn front(alloc: Global, start: &Start) -> Result<String, AllocError>
 }
 
 /// The place before the first entry.
-fn first_place(alloc: Global, sum: &[u8]) -> Result<Line, AllocError>
+pub fn first_place(alloc: Global, sum: &[u8]) -> Result<Line, AllocError>
     ensures { IfOk result (λ place. place ≡ place_text 0 sum.now) }
 {
     let front = place_front(alloc, 0)?;

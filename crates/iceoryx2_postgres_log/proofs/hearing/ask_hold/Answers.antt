@@ -12,12 +12,12 @@ returns-in-Ok-held_piece-clause-ok g c = record {
       c.in-Ok-held_piece.ensures.ok;
 }
 
-pub returns-then-is_one_row-clause-busy : goal.returns-then-is_one_row-clause-busy
-returns-then-is_one_row-clause-busy g c = λ e.
-    let one = c.is_one_row.ensures c.if-is_one_row.true in
+pub returns-then-is_short-clause-busy : goal.returns-then-is_short-clause-busy
+returns-then-is_short-clause-busy g c = λ e.
+    let short = c.is_short.ensures c.if-is_short.true in
     record {
       rows = c.in-Ok-ask.reply.rows.items;
       asks = asks_as _ _ _ _ _ _ _ _ _ _ _ c.in-Ok-ask.ensures.asked c.in-Ok-ask.ensures.heard
-          (c.as_bytes.ensures.value ∙ c.in-Ok.ensures) refl one.1;
-      one = one.0;
+          (c.as_bytes.ensures.value ∙ c.in-Ok.ensures) refl short.1;
+      few = short.0;
     }
