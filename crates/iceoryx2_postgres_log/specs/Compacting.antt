@@ -21,7 +21,7 @@ pub record IsMark (form : List ℕ) : Type 0 where
   pub moves : mark.deed ≡ Moved
   pub is_form : IsForm mark form
 
--- Two rows tell places with one sum: that of the mark, of this number, and that before the next generation's first entry.
+-- Two rows tell places with one sum: the mark's, of this number, and the one before the next generation's first entry.
 pub record TellsMove (number : ℕ) (rows : List (List ℕ)) (place : List ℕ) : Type 0 where
   pub sum : List ℕ
   pub long : length sum ≡ SUM_LENGTH
@@ -29,12 +29,13 @@ pub record TellsMove (number : ℕ) (rows : List (List ℕ)) (place : List ℕ) 
   pub place_is : place ≡ place_text 0 sum
 
 -- The mark was to be inserted behind the last entry, with the next generation's first row, and both were told.
-pub record Moves (at : Standing) (snapshot : ℕ) (written wrote unread left : Option (List ℕ)) (start : Standing) : Type 0 where
+pub record Moves (at : Standing) (snapshot : ℕ) (written wrote unread left : Option (List ℕ)) (start : Standing)
+    : Type 0 where
   pub form : List ℕ
   pub mark : IsMark form
   pub rows : List (List ℕ)
-  pub asks : Asks (text.moving at.log at.generation (at.number + 1) (at.generation + 1) form) (codes "moved") rows text.moved
-      written wrote unread left
+  pub asks : Asks (text.moving at.log at.generation (at.number + 1) (at.generation + 1) form) (codes "moved") rows
+      text.moved written wrote unread left
   pub tells : TellsMove (at.number + 1) rows start.place
   pub is : start ≡ record {
     log = at.log;
@@ -87,7 +88,8 @@ pub record Copies (at : Standing) (entries : List Entry) (written wrote unread l
   pub takes : TakesCopies rows forms at new
 
 -- The same for more of them, some at a time.
-pub data CopiesAll (at : Standing) : List Entry → (written wrote unread left : Option (List ℕ)) → Standing → Type 0 where
+pub data CopiesAll (at : Standing)
+    : List Entry → (written wrote unread left : Option (List ℕ)) → Standing → Type 0 where
   none : {entries : List Entry} {written wrote unread left : Option (List ℕ)} {new : Standing} → entries ≡ []
       → wrote ≡ written → left ≡ unread → new ≡ at → CopiesAll at entries written wrote unread left new
   more : {all some others : List Entry} {written between wrote unread heard left : Option (List ℕ)} {mid new : Standing}
@@ -97,8 +99,8 @@ pub data CopiesAll (at : Standing) : List Entry → (written wrote unread left :
 -- ---- the whole
 
 -- The mark was written, and all of the entries were copied behind the start of the next generation.
-pub record IsCopied (at : Standing) (entries : List Entry) (written wrote unread left : Option (List ℕ)) (last : Standing)
-    : Type 0 where
+pub record IsCopied (at : Standing) (entries : List Entry) (written wrote unread left : Option (List ℕ))
+    (last : Standing) : Type 0 where
   pub between : Option (List ℕ)
   pub heard : Option (List ℕ)
   pub start : Standing
@@ -111,8 +113,8 @@ GoesOn log generation snapshot written wrote unread left =
     Asks (text.going_on log generation snapshot) (codes "went") (codes "t" ∷ []) text.went written wrote unread left
 
 -- All of that, for as many entries as there are.
-pub record IsCompacted (at : Standing) (entries : List Entry) (written wrote unread left : Option (List ℕ)) (new : Standing)
-    : Type 0 where
+pub record IsCompacted (at : Standing) (entries : List Entry) (written wrote unread left : Option (List ℕ))
+    (new : Standing) : Type 0 where
   pub between : Option (List ℕ)
   pub heard : Option (List ℕ)
   pub last : Standing

@@ -1,5 +1,6 @@
 -- What the calls of a handle leave of where it stands.
-use Rattle.std.specs.Prelude.{◌≡◌, ◌≢◌, ◌⊎◌, ℕ, ◌+◌, ◌*◌, ◌-◌, ◌^◌, min, Bool, true, false, List, [], ◌∷◌, Option, Some, None}
+use Rattle.std.specs.Prelude.{◌≡◌, ◌≢◌, ◌⊎◌, ℕ, ◌+◌, ◌*◌, ◌-◌, ◌^◌, min, Bool, true, false}
+use Rattle.std.specs.Prelude.{List, [], ◌∷◌, Option, Some, None}
 use Rattle.iceoryx2_log.specs.declared.entry.Entry.{Entry}
 use Rattle.iceoryx2_log.specs.declared.log.LogError.{LogError}
 use Rattle.iceoryx2_log.specs.Form.{IsForm}
@@ -16,7 +17,7 @@ use Rattle.iceoryx2_postgres_log.specs.Faults.{is_over_by, log_error_of}
 use Rattle.iceoryx2_postgres_log.specs.First.{IsDamaged}
 use Rattle.iceoryx2_postgres_log.specs.Questions as text
 use Rattle.iceoryx2_postgres_log.specs.Standing as standing
-use Rattle.iceoryx2_postgres_log.specs.Hearing.{IsOpened, IsLook, IsDone}
+use Rattle.iceoryx2_postgres_log.specs.Hearing.{IsOpened, IsLook, IsDone, IsRefusedAppend}
 
 -- whether it asks nothing any more, by why the last call was refused
 abbrev pub is_over : Option PostgresFault → Bool
@@ -51,16 +52,16 @@ IsDamagedFirst ahead = (number : ℕ) × IsDamaged ahead number
 -- ---- reading on
 
 -- Nothing was asked: some row is unread, or the end is reached.
-pub record Stays (at : Standing) (until : ℕ) (old : List Row) (written wrote unread left : Option (List ℕ)) (new : List Row)
-    : Type 0 where
+pub record Stays (at : Standing) (until : ℕ) (old : List Row) (written wrote unread left : Option (List ℕ))
+    (new : List Row) : Type 0 where
   pub ahead : new ≡ old
   pub wrote_is : wrote ≡ written
   pub left_is : left ≡ unread
   pub end : old ≡ [] → at.number ≡ until
 
 -- No row was unread, and the next ones were asked for, up to the end, and told.
-pub record ReadsMore (at : Standing) (until : ℕ) (old : List Row) (written wrote unread left : Option (List ℕ)) (new : List Row)
-    : Type 0 where
+pub record ReadsMore (at : Standing) (until : ℕ) (old : List Row) (written wrote unread left : Option (List ℕ))
+    (new : List Row) : Type 0 where
   pub none : old ≡ []
   pub more : at.number ≢ until
   pub piece : Piece
@@ -68,7 +69,8 @@ pub record ReadsMore (at : Standing) (until : ℕ) (old : List Row) (written wro
   pub rows : new ≡ piece.rows.items
   pub some : new ≢ []
 
-abbrev pub ReadsOn : Standing → (until : ℕ) → List Row → (written wrote unread left : Option (List ℕ)) → List Row → Type 0
+abbrev pub ReadsOn : Standing → (until : ℕ) → List Row → (written wrote unread left : Option (List ℕ)) → List Row
+    → Type 0
 ReadsOn at until old written wrote unread left new =
     Stays at until old written wrote unread left new ⊎ ReadsMore at until old written wrote unread left new
 
@@ -95,12 +97,22 @@ pub record MayAppend (why : Option PostgresFault) (mode : Mode) (ahead : List Ro
   pub none_unread : ahead ≡ []
   pub all_read : number ≡ until
 
--- The entry's form was to be inserted under the next number and committed, and the server told its place and that it was
--- done.
-pub record Appended (at : Standing) (e : Entry) (written wrote unread left : Option (List ℕ)) (place : List ℕ) : Type 0 where
+-- The entry's form was to be inserted under the next number and committed, and the server told its place and that it
+-- was done.
+pub record Appended (at : Standing) (e : Entry) (written wrote unread left : Option (List ℕ)) (place : List ℕ)
+    : Type 0 where
   pub form : List ℕ
   pub is_form : IsForm e form
   pub done : IsDone at (at.number + 1) form written wrote unread left place
+
+-- Why an append was refused: nothing was asked; or its commit was asked for and not told; or the server told that it
+-- refused to insert a form of the entry.
+abbrev pub RefusesAppend : Standing → Entry → (written wrote unread left : Option (List ℕ)) → Option PostgresFault
+    → Type 0
+RefusesAppend at e written wrote unread left None = ⊥
+RefusesAppend at e written wrote unread left (Some why) =
+    ((wrote ≡ written) × (left ≡ unread)) ⊎ ((why ≡ fault.Unsure)
+    ⊎ ((form : List ℕ) × IsForm e form × IsRefusedAppend at (at.number + 1) form written wrote unread left why))
 
 -- ---- another generation
 

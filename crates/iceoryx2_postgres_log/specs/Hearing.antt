@@ -22,14 +22,17 @@ pub record IsOpened (question : List ℕ) (at : Standing) (written wrote unread 
 
 abbrev pub TellsOpened : (question : List ℕ) → (written wrote unread left : Option (List ℕ)) → Option Standing → Type 0
 TellsOpened question written wrote unread left (Some at) = IsOpened question at written wrote unread left
-TellsOpened question written wrote unread left None = Asks question (codes "opened") [] text.opened written wrote unread left
+TellsOpened question written wrote unread left None =
+    Asks question (codes "opened") [] text.opened written wrote unread left
 
 -- ---- reading
 
 -- The rows behind the place were read, up to a number and to the last one there was, or 64.
-pub record IsLook (at : Standing) (until : ℕ) (written wrote unread left : Option (List ℕ)) (piece : Piece) : Type 0 where
+pub record IsLook (at : Standing) (until : ℕ) (written wrote unread left : Option (List ℕ)) (piece : Piece)
+    : Type 0 where
   pub rows : List (List ℕ)
-  pub asks : Asks (text.looking at.log at.generation at.number until) (codes "read") rows text.read written wrote unread left
+  pub asks : Asks (text.looking at.log at.generation at.number until) (codes "read") rows text.read
+      written wrote unread left
   pub is : IsPiece at.number until at.place rows piece.last piece.rows.items
 
 -- The same as a hold tells it: an empty row comes first, of the lock.
@@ -68,8 +71,8 @@ IsFormFault fault.OutOfMemory = Unit {0}
 IsFormFault other = ⊥
 
 -- The form was to be inserted under the number and committed, and the server told its place and that it was done.
-pub record IsDone (at : Standing) (number : ℕ) (form : List ℕ) (written wrote unread left : Option (List ℕ)) (place : List ℕ)
-    : Type 0 where
+pub record IsDone (at : Standing) (number : ℕ) (form : List ℕ) (written wrote unread left : Option (List ℕ))
+    (place : List ℕ) : Type 0 where
   pub asks : Asks (text.appending at.log at.generation number form) (codes "appended") (place ∷ []) text.appended
       written wrote unread left
   pub is : IsPlace number place
@@ -79,5 +82,6 @@ pub record IsRefusedAppend (at : Standing) (number : ℕ) (form : List ℕ) (wri
     (why : PostgresFault) : Type 0 where
   pub rows : List (List ℕ)
   pub end : List ℕ
-  pub asks : Asks (text.appending at.log at.generation number form) (codes "appended") rows end written wrote unread left
+  pub asks : Asks (text.appending at.log at.generation number form) (codes "appended") rows end
+      written wrote unread left
   pub refuses : Refuses (codes "appended") rows end why

@@ -13,9 +13,10 @@ pub record IsWhole (number end count : ℕ) : Type 0 where
   pub within : number + count ≤ end
   pub all : count < 64 → number + count ≡ end
 
--- The lines tell the place of this number and that of the last row, and then the rows behind it in order: all of them up
--- to the last one and to `until`, or 64.
-pub record IsPiece (number until : ℕ) (place : List ℕ) (lines : List (List ℕ)) (last : ℕ) (rows : List Row) : Type 0 where
+-- The lines tell the place of this number and the number of the last row, and then the rows behind it in order: all of
+-- them up to the last one and to `until`, or 64.
+pub record IsPiece (number until : ℕ) (place : List ℕ) (lines : List (List ℕ)) (last : ℕ) (rows : List Row)
+    : Type 0 where
   pub first : List ℕ
   pub others : List (List ℕ)
   pub lines_are : lines ≡ first ∷ others

@@ -52,8 +52,8 @@ fn mark_form(alloc: Global) -> Result<Vec<u8>, PostgresFault>
     }
 }
 
-/// The place before the first entry of the next generation, where the rows tell the mark's, of this number, and that one
-/// with the same sum.
+/// The place before the first entry of the next generation, where the rows tell the mark's, of this number, and that
+/// one with the same sum.
 fn start_place(alloc: Global, number: u64, rows: &[Line]) -> Result<Line, PostgresFault>
     ensures { IfOk result (TellsMove number rows.now) }
 {
@@ -80,7 +80,7 @@ fn start_place(alloc: Global, number: u64, rows: &[Line]) -> Result<Line, Postgr
     Ok(place)
 }
 
-/// Writes the mark behind the last entry, and begins the next generation, of which so many entries will be the snapshot.
+/// Writes the mark behind the last entry, and begins the next generation, whose snapshot will have so many entries.
 fn ask_move<R: BufRead, W: Write>(
     alloc: Global,
     at: &Standing,

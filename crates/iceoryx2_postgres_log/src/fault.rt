@@ -30,7 +30,7 @@ pub enum PostgresFault {
     AnotherVersion { found: u64 },
     /// There is no log of this name.
     NoLog,
-    /// The name isn't one to sixty-three letters, digits, points, dashes and underscores that begin with a letter or a digit.
+    /// The name isn't 1 to 63 of the letters, digits, `.`, `_` and `-` of ASCII, with a letter or a digit first.
     BadName,
     /// The role lacks a right.
     NoRight,

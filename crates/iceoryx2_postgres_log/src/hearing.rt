@@ -184,8 +184,8 @@ pub fn of_append(why: PostgresFault) -> PostgresFault
     }
 }
 
-/// Makes the form the entry of this number, and commits that. Answers its place. `OutOfMemory` before anything is asked;
-/// `NoSchema`, `NoRight`, `ReadOnly` and `Refused` where the server says that it refused; else `Unsure`.
+/// Makes the form the entry of this number, and commits that. Answers its place. `OutOfMemory` before anything is
+/// asked; `NoSchema`, `NoRight`, `ReadOnly` and `Refused` where the server says that it refused; else `Unsure`.
 pub fn ask_append<R: BufRead, W: Write>(
     alloc: Global,
     at: &Standing,

@@ -20,7 +20,8 @@ ghost use Rattle.iceoryx2_postgres_log.specs.Patience.{lock_wait};
 ghost use Rattle.iceoryx2_postgres_log.specs.Questions as text;
 ghost use Rattle.iceoryx2_postgres_log.specs.Replies.{Asks};
 ghost use Rattle.iceoryx2_postgres_log.specs.Handle as spec;
-ghost use Rattle.iceoryx2_postgres_log.specs.Handle.{IsErrorOf, ReadsOn, Appended, Rejoined, MayAppend};
+ghost use Rattle.iceoryx2_postgres_log.specs.Handle.{IsErrorOf, ReadsOn, Appended, RefusesAppend, Rejoined};
+ghost use Rattle.iceoryx2_postgres_log.specs.Handle.{MayAppend};
 
 use crate::compacting::ask_compact;
 use crate::fault::{PostgresFault, log_error};
@@ -515,8 +516,9 @@ impl<R: BufRead, W: Write> Log for PostgresLog<R, W> {
         }
     }
 
-    /// Appends the entry and commits it. Where anything else is told than that it stands, the handle is over. `IsAMark`,
-    /// `NotHeld`, `Unread`, `TooLong` and `OutOfMemory` come before anything is asked.
+    /// Appends the entry and commits it. Where anything else is told than that it stands, the handle is over.
+    /// `IsAMark`, `NotHeld`, `Unread`, `TooLong` and `OutOfMemory` come before anything is asked. `Unsure` where the
+    /// commit was asked for and not told.
     fn append(&mut self, entry: &Entry) -> Result<(), LogError>
         ensures was { OnOk result (MayAppend self.old.fault self.old.mode self.old.ahead.items self.old.at.number
             self.old.until) }
@@ -537,6 +539,9 @@ impl<R: BufRead, W: Write> Log for PostgresLog<R, W> {
         }) }
         ensures unsure { OnErr result ((spec.is_over self.new.fault ≡ true)
             ⊎ ((self.new.questions ≡ self.old.questions) × (self.new.replies ≡ self.old.replies))) }
+        ensures refused { OnErr result (RefusesAppend self.old.at entry.now (W.contents self.old.questions)
+            (W.contents self.new.questions) (R.remaining self.old.replies) (R.remaining self.new.replies)
+            self.new.fault) }
         ensures over { spec.is_over self.old.fault ≡ true → self.new ≡ self.old }
         ensures why { IfErr result (λ e. IsErrorOf e self.new.fault) }
     {
@@ -598,8 +603,8 @@ impl<R: BufRead, W: Write> Log for PostgresLog<R, W> {
         }
     }
 
-    /// The server waits for five milliseconds. False once the patience is over, and where the log isn't held, or there is
-    /// no memory.
+    /// The server waits for five milliseconds. False once the patience is over, and where the log isn't held, or there
+    /// is no memory.
     fn pause(&mut self, number: u64) -> bool
         ensures was { IsTrue result → (spec.is_over self.old.fault ≡ false) × (self.old.mode ≡ way.Held)
             × (number * 5 < self.old.patience_millis) }
@@ -698,9 +703,9 @@ impl<R: BufRead, W: Write> Log for PostgresLog<R, W> {
         self.at.number >= self.tries_from
     }
 
-    /// One transaction of the session: nobody sees anything of it unless it is committed. `Failed` with no fault where the
-    /// log isn't eight times as long as the snapshot. `Unsure` where the commit was asked for and not told. Another
-    /// attempt is put off by any `Err`.
+    /// One transaction of the session: nobody sees anything of it unless it is committed. `Failed` with no fault where
+    /// the log isn't eight times as long as the snapshot. `Unsure` where the commit was asked for and not told. Another
+    /// attempt is put off by an `Err`.
     fn compact(&mut self, snapshot: &[Entry]) -> Result<(), LogError>
         ensures was { OnOk result (MayAppend self.old.fault self.old.mode self.old.ahead.items self.old.at.number
             self.old.until) }

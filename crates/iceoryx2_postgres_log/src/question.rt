@@ -16,8 +16,8 @@ fn flag(is: bool) -> &'static str
     if is { "true" } else { "false" }
 }
 
-/// How the session waits, and then where the log of this name stands, which is made where there is none and `makes` says
-/// so. The name is a log's, so nothing in it ends a literal.
+/// How long the session waits, and then where the log of this name stands, which is made where there is none and `makes`
+/// says so. The name is a log's, so nothing in it ends a literal.
 pub fn opening(alloc: Global, name: &str, makes: bool, wait: u64) -> Result<String, AllocError>
     ensures { IfOk result (λ question. string_bytes question ≡ text.opening name.now makes wait) }
 {
@@ -132,7 +132,8 @@ fn row_values(
     format!(in alloc; "({log}, {generation}, {number}, '\\x{digits}')")
 }
 
-/// The form of the mark becomes the entry of this number, and the `later` generation gets its row before the first entry.
+/// The form of the mark becomes the entry of this number, and the `later` generation gets its row before the first
+/// entry.
 pub fn moving(
     alloc: Global,
     log: u64,

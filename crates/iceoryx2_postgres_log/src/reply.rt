@@ -155,9 +155,9 @@ fn read_reply<R: BufRead>(
     Err(PostgresFault::SessionEnded)
 }
 
-/// Asks, and hears the lines up to the first one that begins with the mark. An `Err` is `SessionEnded`: the question was
-/// not written, or the lines ended before its reply did, or there was no memory for them. Whether the question had its
-/// effect isn't known then, and the session is used no more.
+/// Asks, and hears the lines up to the first one that begins with the mark. An `Err` is `SessionEnded`: the question
+/// was not written, or the lines ended before its reply did, or there was no memory for them. Whether the question had
+/// its effect isn't known then, and the session is used no more.
 pub fn ask<R: BufRead, W: Write>(
     alloc: Global,
     question: &[u8],
