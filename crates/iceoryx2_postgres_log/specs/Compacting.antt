@@ -1,6 +1,5 @@
 -- A compaction: the log goes on in its next generation, which begins with a snapshot.
 use Rattle.std.specs.Prelude.{◌≡◌, ℕ, ◌+◌, List, [], ◌∷◌, ◌++◌, Option, All, codes, length}
-use Rattle.std.specs.Io.KnownBytes.{Appends}
 use Rattle.iceoryx2_log.specs.declared.entry.Entry.{Entry}
 use Rattle.iceoryx2_log.specs.declared.entry.Deed.TheVariants.{Moved}
 use Rattle.iceoryx2_log.specs.Form.{IsForm}
@@ -129,8 +128,3 @@ pub record IsCompacted (at : Standing) (entries : List Entry) (written wrote unr
     number = length entries;
     place = last.place;
   }
-
--- What is written ends with an undoing.
-pub record Undoes (wrote : Option (List ℕ)) : Type 0 where
-  pub before : Option (List ℕ)
-  pub undoes : Appends before wrote text.undoing

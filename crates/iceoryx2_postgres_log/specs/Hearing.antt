@@ -53,14 +53,15 @@ pub record IsBusy (at : Standing) (written wrote unread left : Option (List ℕ)
   pub asks : Asks (text.holding at.log at.generation at.number) (codes "held") rows text.busy written wrote unread left
   pub few : length rows ≤ 2
 
--- What is written ends with a letting go.
-pub record LetsGo (log : ℕ) (wrote : Option (List ℕ)) : Type 0 where
-  pub before : Option (List ℕ)
-  pub lets_go : Appends before wrote (text.letting_go log)
+-- The gate was to be locked, and then to be let go of again.
+pub record LetsGo (at : Standing) (written wrote : Option (List ℕ)) : Type 0 where
+  pub between : Option (List ℕ)
+  pub holds : Appends written between (text.holding at.log at.generation at.number)
+  pub lets_go : Appends between wrote (text.letting_go at.log)
 
 -- Nothing was asked, or the gate was let go of again.
-abbrev pub IsFreed : (log : ℕ) → (written wrote unread left : Option (List ℕ)) → Type 0
-IsFreed log written wrote unread left = ((wrote ≡ written) × (left ≡ unread)) ⊎ LetsGo log wrote
+abbrev pub IsFreed : Standing → (written wrote unread left : Option (List ℕ)) → Type 0
+IsFreed at written wrote unread left = ((wrote ≡ written) × (left ≡ unread)) ⊎ LetsGo at written wrote
 
 -- ---- appending
 

@@ -10,7 +10,7 @@ ghost use Rattle.iceoryx2_postgres_log.specs.declared.fault.PostgresFault.TheVar
 ghost use Rattle.iceoryx2_postgres_log.specs.Faults.{is_over_by, IsGrave};
 ghost use Rattle.iceoryx2_postgres_log.specs.Questions as text;
 ghost use Rattle.iceoryx2_postgres_log.specs.Compacting.{IsMark, AreForms, TellsMove, Moves, TakesCopies, Copies};
-ghost use Rattle.iceoryx2_postgres_log.specs.Compacting.{CopiesAll, Undoes, IsCopied, GoesOn, IsCompacted};
+ghost use Rattle.iceoryx2_postgres_log.specs.Compacting.{CopiesAll, IsCopied, GoesOn, IsCompacted};
 
 use crate::fault::PostgresFault;
 use crate::hearing::{form_of, of_append, of_reading};
@@ -200,7 +200,8 @@ fn ask_copies<R: BufRead, W: Write>(
 
 /// Undoes what isn't committed. Why the compaction failed, or `SessionEnded` where that couldn't be said.
 fn undone<W: Write>(why: PostgresFault, questions: &mut W) -> PostgresFault
-    ensures { (result ≡ fault.SessionEnded) ⊎ ((result ≡ why) × Undoes (W.contents questions.new)) }
+    ensures { (result ≡ fault.SessionEnded)
+        ⊎ ((result ≡ why) × Appends (W.contents questions.old) (W.contents questions.new) text.undoing) }
 {
     match write_question(questions, b"rollback and chain;\n") {
         Ok(()) => why,
@@ -259,9 +260,8 @@ pub fn ask_compact<R: BufRead, W: Write>(
     questions: &mut W,
     replies: &mut R,
 ) -> Result<Standing, PostgresFault>
-    ensures ok { IfOk result (IsCompacted at.now entries.now (W.contents questions.old) (W.contents questions.new)
+    ensures { IfOk result (IsCompacted at.now entries.now (W.contents questions.old) (W.contents questions.new)
         (R.remaining replies.old) (R.remaining replies.new)) }
-    ensures err { IfErr result (λ why. (is_over_by why ≡ true) ⊎ Undoes (W.contents questions.new)) }
 {
     let count = entries.len() as u64;
     let Some(later) = at.generation.checked_add(1) else {

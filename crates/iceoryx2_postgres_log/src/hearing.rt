@@ -133,7 +133,7 @@ pub fn ask_hold<R: BufRead, W: Write>(
     ensures err { IfErr result (λ why. (why ≡ fault.Busy) ⊎ IsGrave why) }
     ensures busy { result ≡ Err fault.Busy → IsBusy at.now (W.contents questions.old) (W.contents questions.new)
         (R.remaining replies.old) (R.remaining replies.new) }
-    ensures memory { result ≡ Err fault.OutOfMemory → IsFreed at.now.log (W.contents questions.old)
+    ensures memory { result ≡ Err fault.OutOfMemory → IsFreed at.now (W.contents questions.old)
         (W.contents questions.new) (R.remaining replies.old) (R.remaining replies.new) }
 {
     let Ok(question) = holding(alloc, at.log, at.generation, at.number) else {

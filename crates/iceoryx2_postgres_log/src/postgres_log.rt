@@ -11,7 +11,7 @@ ghost use Rattle.iceoryx2_log.specs.declared.log.LogError.TheVariants as error;
 ghost use Rattle.iceoryx2_log.specs.Log.{is_shown};
 ghost use Rattle.iceoryx2_postgres_log.specs.declared.fault.PostgresFault.TheVariants as fault;
 ghost use Rattle.iceoryx2_postgres_log.specs.declared.postgres_log.Mode.TheVariants as way;
-ghost use Rattle.iceoryx2_postgres_log.specs.Compacting.{IsCompacted, Undoes};
+ghost use Rattle.iceoryx2_postgres_log.specs.Compacting.{IsCompacted};
 ghost use Rattle.iceoryx2_postgres_log.specs.Faults.{is_over_by, log_error_of, IsGrave};
 ghost use Rattle.iceoryx2_postgres_log.specs.First.{Shows, ShowsMark, IsDamaged};
 ghost use Rattle.iceoryx2_postgres_log.specs.Hearing.{IsOpened, IsHeld, IsBusy, IsFreed, IsLook};
@@ -389,7 +389,7 @@ impl<R: BufRead, W: Write> Log for PostgresLog<R, W> {
         }) }
         ensures busy { result ≡ Err error.Busy → IsBusy self.old.at (W.contents self.old.questions)
             (W.contents self.new.questions) (R.remaining self.old.replies) (R.remaining self.new.replies) }
-        ensures memory { result ≡ Err error.OutOfMemory → IsFreed self.old.at.log (W.contents self.old.questions)
+        ensures memory { result ≡ Err error.OutOfMemory → IsFreed self.old.at (W.contents self.old.questions)
             (W.contents self.new.questions) (R.remaining self.old.replies) (R.remaining self.new.replies) }
         ensures over { spec.is_over self.old.fault ≡ true → self.new ≡ self.old }
         ensures why { IfErr result (λ e. IsErrorOf e self.new.fault) }
@@ -726,9 +726,6 @@ impl<R: BufRead, W: Write> Log for PostgresLog<R, W> {
           fault = self.new.fault;
           tries_from = self.new.tries_from;
         }) }
-        ensures undone { OnErr result ((spec.is_over self.new.fault ≡ true)
-            ⊎ (((self.new.questions ≡ self.old.questions) × (self.new.replies ≡ self.old.replies))
-            ⊎ Undoes (W.contents self.new.questions))) }
         ensures over { spec.is_over self.old.fault ≡ true → self.new ≡ self.old }
     {
         if let Some(why) = self.why_unready() {

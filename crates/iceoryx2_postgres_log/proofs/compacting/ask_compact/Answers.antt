@@ -14,8 +14,8 @@ behind log generation count place = record {
   place = place;
 }
 
-pub returns-in-Ok-ask_go_on-clause-ok : goal.returns-in-Ok-ask_go_on-clause-ok
-returns-in-Ok-ask_go_on-clause-ok g c =
+pub returns-in-Ok-ask_go_on : goal.returns-in-Ok-ask_go_on
+returns-in-Ok-ask_go_on g c =
     let at = c.args.at.now in
     let count : ℕ = length c.args.entries.now in
     let later : c.in-Some.later ≡ at.generation + 1 = c.in-Some.ensures.1 in

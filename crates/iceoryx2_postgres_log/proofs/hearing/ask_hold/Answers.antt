@@ -1,4 +1,5 @@
-use Rattle.std.proofs.Common.{◌∙◌, subst, refl, List, ℕ}
+use Rattle.std.proofs.Common.{◌∙◌, subst, refl, List, ℕ, inr}
+use Rattle.std.specs.Io.KnownBytes.{Appends}
 use Rattle.iceoryx2_postgres_log.specs.Hearing.{IsHeldPiece}
 use Rattle.iceoryx2_postgres_log.proofs.Told.{asks_as}
 use Rattle.iceoryx2_postgres_log.proofs.hearing.ask_hold.Goals as goal
@@ -21,3 +22,11 @@ returns-then-is_short-clause-busy g c = λ e.
           (c.as_bytes.ensures.value ∙ c.in-Ok.ensures) refl short.1;
       few = short.0;
     }
+
+pub returns-in-Ok-write_letting_go-clause-memory : goal.returns-in-Ok-write_letting_go-clause-memory
+returns-in-Ok-write_letting_go-clause-memory g c = λ e. inr (record {
+  between = g.W.Write.contents c.ask.new.questions;
+  holds = subst (Appends (g.W.Write.contents c.args.questions.now) (g.W.Write.contents c.ask.new.questions))
+      (c.as_bytes.ensures.value ∙ c.in-Ok.ensures) c.in-Ok-ask.ensures.asked;
+  lets_go = c.in-Ok-write_letting_go.ensures.ok;
+})
