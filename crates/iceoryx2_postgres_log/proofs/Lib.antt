@@ -5,3 +5,4 @@ pub mod Heard
 pub mod Rows
 pub mod Inserts
 pub mod Copies
+pub mod NodeRows

@@ -10,3 +10,5 @@ pub mod Hearing
 pub mod First
 pub mod Handle
 pub mod Compacting
+pub mod NodeQuestions
+pub mod Nodes

@@ -14,6 +14,9 @@
 //! nothing any more (`is_over`). `compact` is `Ok` only where the server told the mark's row, each copy with the form
 //! that was meant, in order, and that the next generation is the current one (`IsCompacted`).
 //!
+//! `nodes` asks for claims of nodes, and for the list of them: only exactly the rows that its definitions name are
+//! taken for an answer.
+//!
 //! For any reader and any writer: what they hold is known where their types say so. What the server and its client do
 //! with the texts is trusted: that the gate excludes, that a commit stands, that the lines come from the server. What
 //! the server keeps is known to no contract, so `contents` claims nothing, as for a file.
@@ -25,6 +28,7 @@ pub mod first;
 pub mod hearing;
 pub mod line;
 pub mod name;
+pub mod nodes;
 mod number;
 pub mod patience;
 pub mod piece;
