@@ -65,13 +65,11 @@ fn viewing_by<'a>(matches: &ArgMatches<'a>) -> Option<Asked<'a>> {
 
 /// The run that was matched. `None` where a value is missing that each match has.
 fn run_of<'a>(matches: &ArgMatches<'a>) -> Option<Run<'a>>
-    ensures at { IfSome result (λ run. first_value (found_of matches.now) (codes "at") ≡ Some run.at.now) }
+    ensures at { IfSome result (λ run. first_value (found_of matches.now) (codes "at") ≡ Some run.place.at.now) }
 {
-    let place = making_place_of(matches)?;
     Some(Run {
-        at: place.at,
+        place: making_place_of(matches)?,
         node: matches.get_one::<u64>("node"),
-        options: place.options,
         explains: matches.get_flag("explain"),
         cleans: !matches.get_flag("no-clean"),
         is_strict: matches.get_flag("strict"),
@@ -185,12 +183,12 @@ fn making_place_of<'a>(matches: &ArgMatches<'a>) -> Option<Place<'a>>
 {
     let place = place_of(matches)?;
     Some(Place {
-        at: place.at,
         options: FileLogOptions {
             synchronizes: matches.get_flag("sync"),
             sharing: sharing_of(matches.get_flag("group")),
             ..place.options
         },
+        ..place
     })
 }
 
@@ -208,6 +206,8 @@ fn place_of<'a>(matches: &ArgMatches<'a>) -> Option<Place<'a>>
             synchronizes: false,
             sharing: Sharing::User,
         },
+        psql: matches.get_str("psql"),
+        pipes: None,
     })
 }
 

@@ -3,26 +3,59 @@
 ghost use Rattle.std.specs.Prelude.{◌≡◌, option_map};
 ghost use Rattle.wulameron_arguments.specs.Making.{made_log};
 
+use crate::pipes::Pipes;
 use iceoryx2_file_log::options::FileLogOptions;
 
-/// A log in a file, and how it is used.
+/// How a log in a database is named: by this, and then its name.
+pub const DATABASE: &str = "postgres:";
+
+/// A log in a file or in a database, and how it is used.
 #[derive(Clone, Copy, Debug)]
 pub struct Place<'a> {
-    /// The path of the log's file.
+    /// The path of the log's file, or `postgres:` and the name of a log in a database.
     pub at: &'a str,
+    /// How it is used. Of a log in a database only how long is tried to hold it.
     pub options: FileLogOptions,
+    /// The word that names the pipes to the database's client, as `wulameron-postgres` gives it.
+    pub psql: Option<&'a str>,
+    /// These pipes, once they are open.
+    pub pipes: Option<&'a Pipes>,
+}
+
+/// A log in a database.
+#[derive(Clone, Copy, Debug)]
+pub struct Database<'a> {
+    /// The log's name.
+    pub log: &'a str,
+    pub pipes: &'a Pipes,
+}
+
+impl<'a> Place<'a> {
+    /// The name of the log in a database. `None` where the log is in a file.
+    pub fn database_log(&self) -> Option<&'a str> {
+        self.at.strip_prefix(DATABASE)
+    }
+
+    /// The log in a database, once its pipes are open. `None` where the log is in a file.
+    pub fn database(&self) -> Option<Database<'a>> {
+        match self.pipes {
+            None => None,
+            Some(pipes) => match self.database_log() {
+                None => None,
+                Some(log) => Some(Database { log, pipes }),
+            },
+        }
+    }
 }
 
 /// That the lines of the standard input are to be answered.
 #[derive(Clone, Copy, Debug)]
 pub struct Run<'a> {
-    /// The path of the log's file.
-    pub at: &'a str,
+    pub place: Place<'a>,
     /// The node in whose name the lines are. `None` where any will do.
     pub node: Option<u64>,
     /// Whether each reply is explained.
     pub explains: bool,
-    pub options: FileLogOptions,
     /// Whether what dead nodes have is given back.
     pub cleans: bool,
     /// Whether the first line that is no command ends it. Else each has a reply.
@@ -133,12 +166,28 @@ pub enum Asked<'a> {
 }
 
 impl<'a> Asked<'a> {
+    /// The log that it is asked for.
+    pub fn place(&mut self) -> &mut Place<'a> {
+        match self {
+            Asked::Run(run) => &mut run.place,
+            Asked::Hold(hold) => &mut hold.place,
+            Asked::Session(session) => &mut session.place,
+            Asked::List(look) => &mut look.place,
+            Asked::Show(show) => &mut show.look.place,
+            Asked::Nodes(look) => &mut look.place,
+            Asked::Clean(clean) => &mut clean.place,
+            Asked::Log(look) => &mut look.place,
+            Asked::Watch(look) => &mut look.place,
+            Asked::Check(place) => place,
+        }
+    }
+
     /// The path of the log that is made where there is none. `None` where the command makes none.
     pub fn made_log(&self) -> Option<&'a str>
         ensures { option_map (λ path. path.now) result ≡ made_log self.now }
     {
         match self {
-            Asked::Run(run) => Some(run.at),
+            Asked::Run(run) => Some(run.place.at),
             Asked::Hold(hold) => Some(hold.place.at),
             Asked::Session(session) => Some(session.place.at),
             _ => None,

@@ -202,20 +202,32 @@ fn with_place<'a>(
     home: Option<&'a str>,
     command: Command<'a>,
 ) -> Result<Command<'a>, AllocError> {
-    command.arg(at(alloc, home))?.arg(wait(alloc))
+    command
+        .arg(at(alloc, home))?
+        .arg(wait(alloc))?
+        .arg(psql(alloc))
 }
 
-/// The file of the log, which has to be named where nothing else names one.
+/// The log, which has to be named where nothing else names one.
 fn at<'a>(alloc: Global, home: Option<&'a str>) -> Arg<'a> {
     let at = Arg::new(alloc, "at")
         .long("at")
         .action(ArgAction::Set)
-        .value_name("FILE")
-        .help("The file of the log");
+        .value_name("LOG")
+        .help("The file of the log, or postgres:NAME under wulameron-postgres");
     match home {
         Some(path) => at.default_value(path),
         None => at.required(true),
     }
+}
+
+/// The pipes to the database's client.
+fn psql<'a>(alloc: Global) -> Arg<'a> {
+    Arg::new(alloc, "psql")
+        .long("psql")
+        .action(ArgAction::Set)
+        .value_name("PIPES")
+        .help("The pipes to psql, which wulameron-postgres names")
 }
 
 /// The node, which may be left out.

@@ -9,3 +9,4 @@ pub mod arguments;
 pub mod asked;
 mod commands;
 pub mod home;
+pub mod pipes;
