@@ -1,4 +1,4 @@
-//! The command that makes one call over the log in a file, and holds what it gives.
+//! The command that makes one call over the log of a place, and holds what it gives.
 
 ghost use Rattle.std.specs.Prelude.{◌≡◌};
 ghost use Rattle.wulameron_hold.specs.Holding.{end_status};
@@ -6,7 +6,6 @@ ghost use Rattle.wulameron_hold.specs.Holding.{end_status};
 use crate::holding::{HoldError, call_line, hold_call, status_of_hold};
 use iceoryx2_commands::command::{Call, Refusal, Reply};
 use iceoryx2_description::config::Config;
-use iceoryx2_log::call_log::CallLog;
 use iceoryx2_session::session::Session;
 use negotiate_explain::refusals::RefusalRow;
 use negotiate_lines::line::{Line, parse};
@@ -23,8 +22,7 @@ use std::random::RandomSource;
 use std::rt::Files;
 use std::time::Clock;
 use wulameron_arguments::asked::Hold;
-use wulameron_place::dead::NodeFiles;
-use wulameron_place::node_log::NodeLog;
+use wulameron_place::dead::PlaceNodes;
 use wulameron_place::opening::{claim, open, states};
 use wulameron_place::reports::{Reports, STAYS};
 use wulameron_place::trouble::{Trouble, Troubled};
@@ -34,7 +32,7 @@ use wulameron_view::viewing::report_look;
 
 const NOT_MADE: &str = "no call was made; start the program again";
 
-/// Makes a call over the log in a file, which is made where there is none, prints what was agreed, and holds the factory
+/// Makes a call over the log of a place, which is made where there is none, prints what was agreed, and holds the factory
 /// until the input ends. The node is claimed as long. Gives the status with which the program ends: 0; 1 where the call
 /// is refused; 2 where the words are no call, and then nothing is claimed or made; or 3 after a failure. The writer of
 /// errors has a line of these.
@@ -48,11 +46,11 @@ pub fn hold<
         return status;
     }
     let mut reports = Reports::new(rt.alloc(), hold.place.at, errors);
-    let Some(token) = claim(&rt, hold.place, hold.node, &mut reports) else {
+    let Some(claim) = claim(&rt, hold.place, hold.node, &mut reports) else {
         return FAULT;
     };
-    let status = hold_as(&rt, token.node(), hold, input, output, &mut reports);
-    drop(token);
+    let status = hold_as(&rt, claim.node(), hold, input, output, &mut reports);
+    drop(claim);
     status
 }
 
@@ -125,24 +123,18 @@ fn hold_as<
     let Some(call) = held_call(alloc, node, hold) else {
         return reports.fail(ServeError::OutOfMemory);
     };
-    let Some(file) = open(rt, place, reports) else {
+    let Some(log) = open(rt, place, reports) else {
         return FAULT;
     };
     let Some(states) = states(rt, place, reports) else {
         return FAULT;
     };
-    let counter = file.header().counter;
-    let log = NodeLog {
-        log: CallLog::new(file),
-        counter,
-        node,
-    };
-    match log.start(alloc, reports) {
+    match log.for_node(node).start(alloc, reports) {
         Err(halt) => reports.halt(halt),
         Ok(journal) => {
             let mut input = input;
             let mut session = Session::over(Config::default(), journal);
-            let _ = clean_dead(alloc, &mut session, &NodeFiles::beside(rt, place));
+            let _ = clean_dead(alloc, &mut session, &PlaceNodes::of(rt, place));
             let held = hold_call(alloc, &mut session, call, &states, &mut input, output);
             let mut journal = session.close_all_held();
             let is_settled = journal.settle(node, &[]).is_ok();

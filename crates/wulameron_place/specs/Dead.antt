@@ -6,13 +6,36 @@ use Rattle.wulameron_place.specs.declared.dead.NotDead.{NotDead}
 use Rattle.wulameron_place.specs.declared.dead.NotDead.TheVariants as not_dead
 use Rattle.iceoryx2_monitoring.specs.declared.error.MonitoringFault.{MonitoringFault}
 use Rattle.iceoryx2_monitoring.specs.declared.error.MonitoringFault.TheVariants as fault
+use Rattle.iceoryx2_postgres_log.specs.Faults.{fault_text as database_text}
+use Rattle.wulameron_place.specs.declared.claims.Claim.{Claim}
+use Rattle.wulameron_place.specs.declared.claims.Claim.TheVariants as claim
+use Rattle.wulameron_place.specs.declared.claims.NodeError.{NodeError}
+use Rattle.wulameron_place.specs.declared.claims.NodeError.TheVariants as error
+use Rattle.wulameron_place.specs.declared.claims.NodeFault.{NodeFault}
+use Rattle.wulameron_place.specs.declared.claims.NodeFault.TheVariants as node_fault
+use Rattle.wulameron_place.specs.Troubles.{database_advice_of}
 use Rattle.wulameron_place.specs.declared.dead.Unclaimed.{Unclaimed}
 use Rattle.wulameron_place.specs.declared.dead.Unclaimed.TheVariants as unclaimed
 
--- why a node isn't claimed, by the fault of its file
-abbrev pub unclaimed_by : MonitoringFault → Unclaimed
-unclaimed_by (fault.NodeIsAlive i) = unclaimed.IsAlive
-unclaimed_by other = unclaimed.Refused
+-- the node of a claim
+abbrev pub named_node : Claim → ℕ
+named_node (claim.File token) = token.node
+named_node (claim.Session node) = node
+
+abbrev pub node_fault_text : NodeFault → List ℕ
+node_fault_text (node_fault.IsAlive node) = codes "node " ++ decimal node ++ codes " is alive"
+node_fault_text node_fault.NoFreeNode = codes "no node up to 65535 is free"
+node_fault_text (node_fault.Refused f) = database_text f ++ codes "; " ++ database_advice_of f
+
+-- why a node isn't claimed, by the fault of its file, or of the database
+abbrev pub unclaimed_in_file : MonitoringFault → Unclaimed
+unclaimed_in_file (fault.NodeIsAlive i) = unclaimed.IsAlive
+unclaimed_in_file other = unclaimed.Refused
+
+abbrev pub unclaimed_by : NodeError → Unclaimed
+unclaimed_by (error.File e) = unclaimed_in_file e.fault
+unclaimed_by (error.Database (node_fault.IsAlive node)) = unclaimed.IsAlive
+unclaimed_by (error.Database other) = unclaimed.Refused
 
 -- why a node of this state isn't cleaned up for
 abbrev pub not_dead_of : (node : ℕ) → NodeState → Option NotDead

@@ -1,6 +1,8 @@
 pub mod Clean
 pub mod Dead
 pub mod Halts
+pub mod Nodes
+pub mod Places
 pub mod Reading
 pub mod Rehearsal
 pub mod Starting

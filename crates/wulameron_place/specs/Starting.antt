@@ -1,6 +1,5 @@
 -- How a node starts.
 use Rattle.std.specs.Prelude.{◌≡◌, ℕ, false, [], ◌∷◌, Option, Some, None}
-use Rattle.iceoryx2_file_log.specs.declared.error.FileFault.{FileFault}
 use Rattle.iceoryx2_journal.specs.Journal.{JournalState}
 use Rattle.iceoryx2_journal.specs.Replay.{Lives}
 use Rattle.iceoryx2_log.specs.Log.{Contents}
@@ -19,7 +18,7 @@ first_journal log counter =
 
 -- A journal of the log has this node alone, after what the node had was given back. Its world agrees, and nothing went
 -- wrong at the log for the last time.
-pub record IsStarted {L : Type 0} (contents : L → Option Contents) (refused : L → Option FileFault) (first : L)
+pub record IsStarted {L : Type 0} (contents : L → Option Contents) (refused : L → Option Trouble) (first : L)
     (counter node : ℕ) (journal : JournalState L) : Type 0 where
   pub lives : Lives contents (first_journal first counter) journal
   pub nodes : journal.nodes ≡ node ∷ []
@@ -32,7 +31,7 @@ HaltsBy (Some t) h = h ≡ halt.Log t
 HaltsBy None h = h ≡ halt.Serving failure.OutOfMemory
 
 -- That is so at what has become of a journal of the log.
-pub record IsNotStarted {L : Type 0} (contents : L → Option Contents) (refused : L → Option FileFault) (first : L)
+pub record IsNotStarted {L : Type 0} (contents : L → Option Contents) (refused : L → Option Trouble) (first : L)
     (counter : ℕ) (h : Halt) : Type 0 where
   pub journal : JournalState L
   pub lives : Lives contents (first_journal first counter) journal

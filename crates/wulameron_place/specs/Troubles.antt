@@ -8,6 +8,10 @@ use Rattle.iceoryx2_file_log.specs.declared.error.FileFault.TheVariants as file
 use Rattle.iceoryx2_file_log.specs.declared.cursor.State.{State}
 use Rattle.iceoryx2_file_log.specs.declared.cursor.State.TheVariants as state
 use Rattle.iceoryx2_file_log.specs.Errors.{fault_text}
+use Rattle.iceoryx2_postgres_log.specs.declared.fault.PostgresFault.{PostgresFault}
+use Rattle.iceoryx2_postgres_log.specs.declared.fault.PostgresFault.TheVariants as database
+use Rattle.iceoryx2_postgres_log.specs.Faults.{is_over_by}
+use Rattle.iceoryx2_postgres_log.specs.Faults.{fault_text as database_text}
 use Rattle.negotiate_lines.specs.Escapes.{escaped}
 use Rattle.negotiate_serve.specs.declared.ending.ServeError.{ServeError}
 use Rattle.negotiate_serve.specs.declared.ending.ServeError.TheVariants as failure
@@ -16,29 +20,40 @@ use Rattle.wulameron_place.specs.declared.trouble.Trouble.{Trouble}
 use Rattle.wulameron_place.specs.declared.trouble.Trouble.TheVariants as trouble
 
 -- what goes wrong at a journal: an entry ended it, or else what its log refused last
-abbrev pub trouble_of : (is_over : Bool) → Option FileFault → Option Trouble
+abbrev pub trouble_of : (is_over : Bool) → Option Trouble → Option Trouble
 trouble_of true refused = Some trouble.Over
-trouble_of false refused = option_map trouble.Refused refused
+trouble_of false refused = refused
 
--- what a user has to know of why a log refused: not that it goes on elsewhere, or isn't worth a compaction
-abbrev pub concern_of : Option FileFault → Option FileFault
-concern_of (Some file.Moved) = None
-concern_of (Some file.NothingSaved) = None
-concern_of other = other
+-- what a user has to know of why a file refused: not that the log goes on elsewhere, or isn't worth a compaction
+abbrev pub file_concern_of : Option FileFault → Option Trouble
+file_concern_of None = None
+file_concern_of (Some file.Moved) = None
+file_concern_of (Some file.NothingSaved) = None
+file_concern_of (Some fault) = Some (trouble.Refused fault)
 
 -- the same, but for damage that was found while the log wasn't held: a handle that found it while it was is damaged
-abbrev pub concern_held_of : State → Option FileFault → Option FileFault
-concern_held_of (state.Damaged x) (Some (file.Damaged at)) = Some (file.Damaged at)
-concern_held_of s (Some (file.Damaged at)) = None
-concern_held_of s other = concern_of other
+abbrev pub file_concern_held_of : State → Option FileFault → Option Trouble
+file_concern_held_of (state.Damaged x) (Some (file.Damaged at)) = Some (trouble.Refused (file.Damaged at))
+file_concern_held_of s (Some (file.Damaged at)) = None
+file_concern_held_of s other = file_concern_of other
 
--- a log that is over, is damaged, has lost its path, or may have an entry that nobody knows of isn't used any more
+-- the same of a database
+abbrev pub database_concern_of : Option PostgresFault → Option Trouble
+database_concern_of None = None
+database_concern_of (Some database.Moved) = None
+database_concern_of (Some database.NothingSaved) = None
+database_concern_of (Some fault) = Some (trouble.Database fault)
+
+-- a log that is over, is damaged, has lost its path or its session, or may have an entry that nobody knows of isn't
+-- used any more
 abbrev pub is_last : Trouble → Bool
 is_last trouble.Over = true
 is_last (trouble.Refused (file.Damaged at)) = true
 is_last (trouble.Refused file.Unsure) = true
 is_last (trouble.Refused file.Removed) = true
 is_last (trouble.Refused other) = false
+is_last (trouble.Database (database.Damaged number)) = true
+is_last (trouble.Database other) = is_over_by other
 
 -- the trouble, where it is the last one
 abbrev pub only_last : Trouble → Bool → Option Trouble
@@ -80,15 +95,41 @@ advice_of file.AnotherLog = codes "start the program again"
 advice_of file.NothingSaved = codes "leave it"
 advice_of (file.Failed kind) = kind_advice_of kind
 
+-- what can be done where a database refused
+abbrev pub database_advice_of : PostgresFault → List ℕ
+database_advice_of database.Busy = codes "try again, or with a longer --wait"
+database_advice_of database.OutOfMemory = codes "free memory, and try again"
+database_advice_of database.SessionEnded = codes "see whether the server runs, and start the program again"
+database_advice_of database.Unsure = codes "start the program again"
+database_advice_of database.NotUnderstood =
+    codes "start it by wulameron-postgres, with the server's messages in English"
+database_advice_of database.NoSchema = codes "have its owner run schema.sql in it"
+database_advice_of (database.AnotherVersion found) = codes "use a program of that version"
+database_advice_of database.NoLog = codes "name another log, or make it by `wulameron run`"
+database_advice_of database.BadName = codes "name it by letters, digits, points, dashes and underscores"
+database_advice_of database.NoRight = codes "have its owner grant wulameron_node to the role"
+database_advice_of database.ReadOnly = codes "connect to the server that takes writes"
+database_advice_of database.AnotherHistory = codes "start the program again"
+database_advice_of (database.Damaged number) = codes "begin another log"
+database_advice_of database.HeldAlready = codes "start the program again"
+database_advice_of database.NotHeld = codes "start the program again"
+database_advice_of database.IsAMark = codes "start the program again"
+database_advice_of database.Unread = codes "start the program again"
+database_advice_of database.TooLong = codes "give the service fewer attributes"
+database_advice_of database.Moved = codes "try again"
+database_advice_of database.NothingSaved = codes "leave it"
+database_advice_of (database.Refused state) = codes "see the server's log"
+
 abbrev pub trouble_text : Trouble → Option (List ℕ)
 trouble_text trouble.Over = Some (codes "has an entry that this program can't follow; start it with a node of its own")
 trouble_text (trouble.Refused f) = Some (fault_text f ++ codes "; " ++ advice_of f)
+trouble_text (trouble.Database f) = Some (database_text f ++ codes "; " ++ database_advice_of f)
 
 -- what is written of why a log isn't opened, behind its path
-abbrev pub unopened_text : FileFault → Option (List ℕ)
-unopened_text (file.Failed system.NotFound) =
+abbrev pub unopened_text : Trouble → Option (List ℕ)
+unopened_text (trouble.Refused (file.Failed system.NotFound)) =
     Some (codes "there is no log; name another file, or make it by `wulameron run`")
-unopened_text fault = trouble_text (trouble.Refused fault)
+unopened_text other = trouble_text other
 
 -- the line of a trouble with the log of this path
 abbrev pub trouble_line : (path text : List ℕ) → List ℕ

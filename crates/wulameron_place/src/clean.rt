@@ -5,8 +5,9 @@ ghost use Rattle.iceoryx2_journal.specs.Taking.{is_own};
 ghost use Rattle.iceoryx2_world.specs.Interference.{Rely};
 ghost use Rattle.wulameron_place.specs.Clean.{ComesToWorld};
 
-use crate::dead::{DeadNodes, NodeFiles, NotDead, Unclaimed, dead_of, not_dead};
-use crate::opening::{open, open_view};
+use crate::claims::{NodeError, list, state_of};
+use crate::dead::{DeadNodes, NotDead, PlaceNodes, Unclaimed, dead_of, not_dead};
+use crate::opening::{OpenLog, open, open_view};
 use crate::reading::take_over;
 use crate::reports::Reports;
 use crate::texts::{RehearsalError, describe_cleaned, gave_nothing, rehearse_nodes};
@@ -14,8 +15,6 @@ use crate::trouble::Refusing;
 use iceoryx2_journal::cleaning::{CleanError, Cleaned};
 use iceoryx2_journal::journal::Journal;
 use iceoryx2_log::call_log::{CallLog, SpansCalls};
-use iceoryx2_monitoring::error::MonitoringError;
-use iceoryx2_monitoring::state::{list, state};
 use iceoryx2_table::table::stored::StoredWorld;
 use negotiate_serve::ending::{DONE, FAULT, ServeError};
 use negotiate_serve::output::write_out;
@@ -25,7 +24,7 @@ use std::io::Write;
 use std::random::RandomSource;
 use std::rt::Files;
 use std::time::Clock;
-use wulameron_arguments::asked::Clean;
+use wulameron_arguments::asked::{Clean, Place};
 
 /// The status where a node that was named isn't dead.
 pub const NOT_DEAD: u8 = 1;
@@ -39,13 +38,13 @@ pub const STAYS: &str =
 pub enum Unfound {
     /// The node that was named isn't dead.
     NotDead(NotDead),
-    /// A node's file or the log's folder refused.
-    Failed(MonitoringError),
+    /// A node's file, the log's folder or the database refused.
+    Failed(NodeError),
     OutOfMemory,
 }
 
-/// Gives back what dead nodes have over the log in a file, of all or of the one that is named, with a line on the output
-/// for each of which there was something. As a dry run it only writes what that would be, and appends nothing.
+/// Gives back what dead nodes have over the log of a place, of all or of the one that is named, with a line on the
+/// output for each of which there was something. As a dry run it only writes what that would be, and appends nothing.
 ///
 /// Gives the status with which the program ends: 0; 1 where the node that is named isn't dead; or 3 after a failure.
 /// The writer of errors has a line of these.
@@ -56,7 +55,7 @@ pub fn clean<F: Files<File = File> + Clock + RandomSource + AllocGlobal, W: Writ
     errors: &mut E,
 ) -> u8 {
     let mut reports = Reports::new(rt.alloc(), asked.place.at, errors);
-    match wanted_nodes(rt, asked.place.at, asked.node) {
+    match wanted_nodes(rt, asked.place, asked.node) {
         Ok(nodes) => {
             if asked.is_dry_run {
                 return rehearse_found(rt, asked, &nodes, output, &mut reports);
@@ -69,15 +68,15 @@ pub fn clean<F: Files<File = File> + Clock + RandomSource + AllocGlobal, W: Writ
 
 // ---- which nodes
 
-/// The dead nodes beside the log of this path, or the one that is named where it is dead.
+/// The dead nodes at the place, or the one that is named where it is dead.
 pub fn wanted_nodes<F: Files<File = File> + AllocGlobal>(
     rt: &F,
-    path: &str,
+    place: Place<'_>,
     named: Option<u64>,
 ) -> Result<Vec<u64>, Unfound> {
     match named {
-        Some(node) => named_node(rt, path, node),
-        None => match list(rt, path) {
+        Some(node) => named_node(rt, place, node),
+        None => match list(rt, place) {
             Ok(found) => Ok(dead_of(rt.alloc(), &found)),
             Err(error) => Err(Unfound::Failed(error)),
         },
@@ -87,10 +86,10 @@ pub fn wanted_nodes<F: Files<File = File> + AllocGlobal>(
 /// This node, where it is dead.
 fn named_node<F: Files<File = File> + AllocGlobal>(
     rt: &F,
-    path: &str,
+    place: Place<'_>,
     node: u64,
 ) -> Result<Vec<u64>, Unfound> {
-    match state(rt, path, node) {
+    match state_of(rt, place, node) {
         Ok(state) => match not_dead(node, state) {
             None => match vec![in rt.alloc(); node] {
                 Ok(nodes) => Ok(nodes),
@@ -128,11 +127,10 @@ fn clean_found<F: Files<File = File> + Clock + RandomSource + AllocGlobal, W: Wr
     reports: &mut Reports<'_, E>,
 ) -> u8 {
     let place = asked.place;
-    let Some(log) = open(rt, place, reports) else {
+    let Some(OpenLog { log, counter }) = open(rt, place, reports) else {
         return FAULT;
     };
-    let counter = log.header().counter;
-    let dead = NodeFiles::beside(rt, place);
+    let dead = PlaceNodes::of(rt, place);
     let alloc = rt.alloc();
     let mut journal = Journal::starting_at(alloc, CallLog::new(log), Vec::new(alloc), counter);
     let done = clean_nodes(alloc, &mut journal, &dead, nodes, output);
@@ -227,7 +225,7 @@ fn clean_node<L: Refusing + SpansCalls, D: DeadNodes>(
             journal.begin_call();
             let cleaned = journal.clean(node);
             journal.end_call();
-            drop(claim);
+            dead.give_back(claim);
             found_by(cleaned)
         }
     }

@@ -3,10 +3,9 @@
 ghost use Rattle.std.specs.Prelude.{◌≡◌};
 ghost use Rattle.wulameron_place.specs.Dead.{not_dead_of, unclaimed_by};
 
-use iceoryx2_file_log::options::Sharing;
+use crate::claims::{Claim, NodeError, NodeFault, dead_lock, dead_token, give_lock_back, list};
 use iceoryx2_monitoring::error::MonitoringFault;
-use iceoryx2_monitoring::state::{NodeState, NodeStatus, list};
-use iceoryx2_monitoring::token::{Token, claim};
+use iceoryx2_monitoring::state::{NodeState, NodeStatus};
 use std::alloc::Global;
 use std::fmt;
 use std::fs::File;
@@ -17,7 +16,7 @@ use wulameron_arguments::asked::Place;
 
 /// Who finds nodes that are dead, and claims them.
 pub trait DeadNodes {
-    /// What keeps others from claiming a node, until it is dropped.
+    /// What keeps others from claiming a node, until it is given back.
     type Claim: Drop;
 
     /// Nodes that were dead a moment ago. Those are left out that can't be had.
@@ -25,6 +24,9 @@ pub trait DeadNodes {
 
     /// Claims a node, where it is dead still.
     fn claim(&self, node: u64) -> Result<Self::Claim, Unclaimed>;
+
+    /// Gives a claim back.
+    fn give_back(&self, claim: Self::Claim);
 }
 
 /// Why a node isn't claimed.
@@ -36,13 +38,19 @@ pub enum Unclaimed {
     Refused,
 }
 
-/// Why a node isn't claimed whose file refused so.
-fn why_unclaimed(fault: MonitoringFault) -> Unclaimed
-    ensures { result ≡ unclaimed_by fault }
+/// Why a node isn't claimed whose file or database refused so.
+fn why_unclaimed(error: &NodeError) -> Unclaimed
+    ensures { result ≡ unclaimed_by error.now }
 {
-    match fault {
-        MonitoringFault::NodeIsAlive { node: _ } => Unclaimed::IsAlive,
-        _ => Unclaimed::Refused,
+    match error {
+        NodeError::File(error) => match error.fault() {
+            MonitoringFault::NodeIsAlive { node: _ } => Unclaimed::IsAlive,
+            _ => Unclaimed::Refused,
+        },
+        NodeError::Database(fault) => match fault {
+            NodeFault::IsAlive { node: _ } => Unclaimed::IsAlive,
+            _ => Unclaimed::Refused,
+        },
     }
 }
 
@@ -80,23 +88,20 @@ pub fn not_dead(node: u64, state: NodeState) -> Option<NotDead>
     }
 }
 
-/// The nodes by their files beside a log. Where nothing is to be cleaned up it finds none.
+/// The nodes at a place. Where nothing is to be cleaned up it finds none.
 #[derive(Drop)]
-pub struct NodeFiles<'a, F> {
+pub struct PlaceNodes<'a, F> {
     pub rt: &'a F,
-    /// The path of the log.
-    pub path: &'a str,
-    pub sharing: Sharing,
+    pub place: Place<'a>,
     pub cleans: bool,
 }
 
-impl<'a, F> NodeFiles<'a, F> {
-    /// Those beside the log of a place, of which the dead ones are to be cleaned up for.
-    pub fn beside(rt: &'a F, place: Place<'a>) -> NodeFiles<'a, F> {
-        NodeFiles {
+impl<'a, F> PlaceNodes<'a, F> {
+    /// Those of which the dead ones are to be cleaned up for.
+    pub fn of(rt: &'a F, place: Place<'a>) -> PlaceNodes<'a, F> {
+        PlaceNodes {
             rt,
-            path: place.at,
-            sharing: place.options.sharing,
+            place,
             cleans: true,
         }
     }
@@ -114,23 +119,45 @@ pub fn dead_of(alloc: Global, nodes: &[NodeStatus]) -> Vec<u64> {
 }
 
 impl<'a, F: Files<File = File> + Clock + RandomSource + AllocGlobal> DeadNodes
-    for NodeFiles<'a, F> {
-    type Claim = Token;
+    for PlaceNodes<'a, F> {
+    type Claim = Claim;
 
     fn found(&self, alloc: Global) -> Vec<u64> {
         if !self.cleans {
             return Vec::new(alloc);
         }
-        match list(self.rt, self.path) {
+        match list(self.rt, self.place) {
             Ok(nodes) => dead_of(alloc, &nodes),
             Err(_) => Vec::new(alloc),
         }
     }
 
-    fn claim(&self, node: u64) -> Result<Token, Unclaimed> {
-        match claim(self.rt, self.path, node, self.sharing) {
-            Ok(token) => Ok(token),
-            Err(error) => Err(why_unclaimed(error.fault())),
+    fn claim(&self, node: u64) -> Result<Claim, Unclaimed> {
+        match dead_claim(self.rt, self.place, node) {
+            Ok(claim) => Ok(claim),
+            Err(error) => Err(why_unclaimed(&error)),
         }
+    }
+
+    fn give_back(&self, claim: Claim) {
+        if let Some(database) = self.place.database() {
+            give_lock_back(self.rt.alloc(), database, claim.node());
+        }
+        drop(claim);
+    }
+}
+
+/// Claims a node that is dead, if it is dead still.
+fn dead_claim<F: Files<File = File> + Clock + RandomSource + AllocGlobal>(
+    rt: &F,
+    place: Place<'_>,
+    node: u64,
+) -> Result<Claim, NodeError> {
+    match place.database() {
+        Some(database) => match dead_lock(rt.alloc(), database, node) {
+            Ok(claim) => Ok(claim),
+            Err(fault) => Err(NodeError::Database(fault)),
+        },
+        None => dead_token(rt, place.at, node, place.options.sharing),
     }
 }

@@ -1,47 +1,61 @@
-//! Opening a log's file, and claiming a node beside it.
+//! Opening a log, and claiming a node at it. What can't be had is told.
 
-ghost use Rattle.std.specs.Prelude.{◌≡◌, IfOk, IfSome};
+ghost use Rattle.std.specs.Prelude.{◌≡◌, IfSome};
+ghost use Rattle.wulameron_place.specs.Dead.{named_node};
 
+use crate::claims::{Claim, claim_node, list, millis};
+use crate::node_log::NodeLog;
+use crate::place_log::PlaceLog;
 use crate::reports::Reports;
 use crate::trouble::Trouble;
+use iceoryx2_file_log::error::FileFault;
 use iceoryx2_file_log::file_log::FileLog;
 use iceoryx2_journal::journal::Journal;
-use iceoryx2_monitoring::error::MonitoringError;
-use iceoryx2_monitoring::state::{self, NodeStatus};
-use iceoryx2_monitoring::token::{Token, claim_free, claim_within};
-use negotiate_serve::ending::ServeError;
+use iceoryx2_log::call_log::CallLog;
+use iceoryx2_monitoring::state::NodeStatus;
+use iceoryx2_postgres_log::fault::PostgresFault;
+use iceoryx2_postgres_log::postgres_log::PostgresLog;
+use std::alloc::Global;
 use std::fs::File;
-use std::io::Write;
+use std::io::{BufReader, Write};
 use std::random::RandomSource;
 use std::rt::Files;
 use std::time::Clock;
-use wulameron_arguments::asked::Place;
+use wulameron_arguments::asked::{Database, Place};
 
-/// The claim of the node that is named beside the log, or of the lowest that is free. It tries for the named one as
-/// long as for the log.
-pub fn claimed<F: Files<File = File> + Clock + RandomSource + AllocGlobal>(
-    rt: &F,
-    place: Place<'_>,
-    node: Option<u64>,
-) -> Result<Token, MonitoringError>
-    ensures named { IfOk result (λ token. IfSome node (λ named. token.node ≡ named)) }
-{
-    let options = place.options;
-    match node {
-        Some(node) => claim_within(rt, place.at, node, options.sharing, options.patience),
-        None => claim_free(rt, place.at, options.sharing),
+/// The log of a place.
+pub type LogAt<'a, F> = PlaceLog<FileLog<&'a F>, PostgresLog<BufReader<&'a File>, &'a File>>;
+
+/// A log of which nothing is taken over yet, and the number with which the counter of its services begins.
+#[derive(Drop)]
+pub struct OpenLog<L> {
+    pub log: L,
+    pub counter: u64,
+}
+
+impl<L> OpenLog<L> {
+    /// The same for a node that this process has claimed, each of whose calls holds it once.
+    pub fn for_node(self, node: u64) -> NodeLog<CallLog<L>> {
+        let OpenLog { log, counter } = self;
+        NodeLog {
+            log: CallLog::new(log),
+            counter,
+            node,
+        }
     }
 }
 
-/// Claims a node as `claimed` does. `None` where it can't be had, which is told.
+/// Claims a node as `claim_node` does. `None` where it can't be had, which is told.
 pub fn claim<F: Files<File = File> + Clock + RandomSource + AllocGlobal, E: Write>(
     rt: &F,
     place: Place<'_>,
     node: Option<u64>,
     reports: &mut Reports<'_, E>,
-) -> Option<Token> {
-    match claimed(rt, place, node) {
-        Ok(token) => Some(token),
+) -> Option<Claim>
+    ensures named { IfSome result (λ claim. IfSome node (λ named. named_node claim ≡ named)) }
+{
+    match claim_node(rt, place, node) {
+        Ok(claim) => Some(claim),
         Err(error) => {
             let _ = reports.tell_claim(&error);
             None
@@ -52,19 +66,76 @@ pub fn claim<F: Files<File = File> + Clock + RandomSource + AllocGlobal, E: Writ
 /// Opens the log, which is made where there is none. `None` where it can't be had, which is told.
 pub fn open<'a, F: Files<File = File> + Clock + RandomSource + AllocGlobal, E: Write>(
     rt: &'a F,
-    place: Place<'_>,
+    place: Place<'a>,
     reports: &mut Reports<'_, E>,
-) -> Option<FileLog<&'a F>> {
-    let Ok(path) = format!(in rt.alloc(); "{}", place.at) else {
-        let _ = reports.fail(ServeError::OutOfMemory);
-        return None;
-    };
-    match FileLog::open(rt, path, place.options) {
+) -> Option<OpenLog<LogAt<'a, F>>> {
+    match opened(rt, place) {
         Ok(log) => Some(log),
-        Err(error) => {
-            let _ = reports.tell(Trouble::Refused(error.fault()));
+        Err(trouble) => {
+            let _ = reports.tell(trouble);
             None
         }
+    }
+}
+
+/// Opens the log, which is made where there is none. `Trouble` where it can't be had.
+pub fn opened<'a, F: Files<File = File> + Clock + RandomSource + AllocGlobal>(
+    rt: &'a F,
+    place: Place<'a>,
+) -> Result<OpenLog<LogAt<'a, F>>, Trouble> {
+    match place.database() {
+        Some(database) => opened_database(rt.alloc(), place, database, true),
+        None => opened_file(rt, place, true),
+    }
+}
+
+/// Opens the log in a file, to read it only unless it is made where there is none.
+fn opened_file<'a, F: Files<File = File> + Clock + RandomSource + AllocGlobal>(
+    rt: &'a F,
+    place: Place<'a>,
+    makes: bool,
+) -> Result<OpenLog<LogAt<'a, F>>, Trouble> {
+    let Ok(path) = format!(in rt.alloc(); "{}", place.at) else {
+        return Err(Trouble::Refused(FileFault::OutOfMemory));
+    };
+    let found = if makes {
+        FileLog::open(rt, path, place.options)
+    } else {
+        FileLog::open_to_read(rt, path, place.options)
+    };
+    match found {
+        Ok(log) => {
+            let counter = log.header().counter;
+            Ok(OpenLog {
+                log: PlaceLog::File(log),
+                counter,
+            })
+        }
+        Err(error) => Err(Trouble::Refused(error.fault())),
+    }
+}
+
+/// Opens the log in a database.
+fn opened_database<'a, F>(
+    alloc: Global,
+    place: Place<'a>,
+    database: Database<'a>,
+    makes: bool,
+) -> Result<OpenLog<LogAt<'a, F>>, Trouble> {
+    let Ok(replies) = BufReader::new(alloc, database.pipes.replies()) else {
+        return Err(Trouble::Database(PostgresFault::OutOfMemory));
+    };
+    let wait = millis(place.options.patience);
+    let questions = database.pipes.questions();
+    match PostgresLog::open(alloc, database.log, wait, makes, questions, replies) {
+        Ok(log) => {
+            let counter = log.counter();
+            Ok(OpenLog {
+                log: PlaceLog::Database(log),
+                counter,
+            })
+        }
+        Err(fault) => Err(Trouble::Database(fault)),
     }
 }
 
@@ -72,33 +143,39 @@ pub fn open<'a, F: Files<File = File> + Clock + RandomSource + AllocGlobal, E: W
 /// log, or it can't be had, which is told.
 pub fn open_view<'a, F: Files<File = File> + Clock + RandomSource + AllocGlobal, E: Write>(
     rt: &'a F,
-    place: Place<'_>,
+    place: Place<'a>,
     reports: &mut Reports<'_, E>,
-) -> Option<Journal<FileLog<&'a F>>> {
+) -> Option<Journal<LogAt<'a, F>>> {
     let alloc = rt.alloc();
-    let Ok(path) = format!(in alloc; "{}", place.at) else {
-        let _ = reports.fail(ServeError::OutOfMemory);
-        return None;
-    };
-    match FileLog::open_to_read(rt, path, place.options) {
-        Ok(log) => {
-            let counter = log.header().counter;
+    match opened_view(rt, place) {
+        Ok(OpenLog { log, counter }) => {
             Some(Journal::starting_at(alloc, log, Vec::new(alloc), counter))
         }
-        Err(error) => {
-            let _ = reports.tell_unopened(error.fault());
+        Err(trouble) => {
+            let _ = reports.tell_unopened(trouble);
             None
         }
     }
 }
 
-/// The states of the nodes beside the log. `None` where they can't be had, which is told.
+/// Opens the log, to read it only. `Trouble` where there is none, or it can't be had.
+pub fn opened_view<'a, F: Files<File = File> + Clock + RandomSource + AllocGlobal>(
+    rt: &'a F,
+    place: Place<'a>,
+) -> Result<OpenLog<LogAt<'a, F>>, Trouble> {
+    match place.database() {
+        Some(database) => opened_database(rt.alloc(), place, database, false),
+        None => opened_file(rt, place, false),
+    }
+}
+
+/// The states of the nodes at the place. `None` where they can't be had, which is told.
 pub fn states<F: Files<File = File> + AllocGlobal, E: Write>(
     rt: &F,
     place: Place<'_>,
     reports: &mut Reports<'_, E>,
 ) -> Option<Vec<NodeStatus>> {
-    match state::list(rt, place.at) {
+    match list(rt, place) {
         Ok(states) => Some(states),
         Err(error) => {
             let _ = reports.tell_claim(&error);

@@ -1,15 +1,15 @@
 //! What a program tells of the log of a path: a line each, on its writer of errors.
 
 ghost use Rattle.std.specs.Prelude.{◌≡◌, List, ℕ, Option, Some, IfOk, codes, string_bytes};
-ghost use Rattle.iceoryx2_monitoring.specs.Errors.{fault_text as claim_text};
+ghost use Rattle.wulameron_place.specs.Nodes.{node_line};
 ghost use Rattle.negotiate_serve.specs.Outputs.{Writes};
 ghost use Rattle.negotiate_serve.specs.Reports.{failure_line};
 ghost use Rattle.wulameron_place.specs.Troubles.{WritesLine, last_of, trouble_line, unopened_text};
 
+use crate::claims::NodeError;
 use crate::halt::Halt;
 use crate::trouble::{Trouble, Troubled, last_trouble};
 use iceoryx2_file_log::error::FileFault;
-use iceoryx2_monitoring::error::MonitoringError;
 use negotiate_lines::escape::escaped_text;
 use negotiate_serve::ending::{Ending, FAULT, ServeError};
 use negotiate_serve::output::write_out;
@@ -59,7 +59,16 @@ impl<'a, E: Write> Reports<'a, E> {
             → WritesLine (trouble_line self.old.path.now text) result
             (E.contents self.old.errors) (E.contents self.new.errors) }
     {
-        match line_of(self.alloc, self.path, wrong) {
+        self.tell_at(self.path, wrong)
+    }
+
+    /// Writes the line of what is wrong with what has this path.
+    fn tell_at<D: fmt::Display + Copy>(&mut self, path: &str, wrong: D) -> Result<(), ServeError>
+        ensures { (text : List ℕ) → D.output wrong ≡ Some text
+            → WritesLine (trouble_line path.now text) result
+            (E.contents self.old.errors) (E.contents self.new.errors) }
+    {
+        match line_of(self.alloc, path, wrong) {
             Ok(line) => write_out(line.as_bytes(), &mut self.errors),
             Err(_) => Err(ServeError::OutOfMemory),
         }
@@ -68,29 +77,31 @@ impl<'a, E: Write> Reports<'a, E> {
     /// Writes the line of why the log isn't opened.
     ///
     /// `ServeError` as `tell` does.
-    pub fn tell_unopened(&mut self, fault: FileFault) -> Result<(), ServeError>
-        ensures { (text : List ℕ) → unopened_text fault ≡ Some text
+    pub fn tell_unopened(&mut self, trouble: Trouble) -> Result<(), ServeError>
+        ensures { (text : List ℕ) → unopened_text trouble ≡ Some text
             → WritesLine (trouble_line self.old.path.now text) result
             (E.contents self.old.errors) (E.contents self.new.errors) }
     {
-        match fault {
-            FileFault::Failed {
-                kind: ErrorKind::NotFound,
-            } => self.tell(NO_LOG),
-            _ => self.tell(Trouble::Refused(fault)),
+        match trouble {
+            Trouble::Refused(
+                FileFault::Failed {
+                    kind: ErrorKind::NotFound,
+                },
+            ) => self.tell(NO_LOG),
+            _ => self.tell(trouble),
         }
     }
 
     /// Writes the line of a node that isn't claimed.
     ///
     /// `ServeError` as `tell` does.
-    pub fn tell_claim(&mut self, error: &MonitoringError) -> Result<(), ServeError>
-        ensures { WritesLine (trouble_line (string_bytes error.now.path) (claim_text error.now.fault)) result
+    pub fn tell_claim(&mut self, error: &NodeError) -> Result<(), ServeError>
+        ensures { WritesLine (node_line self.old.path.now error.now) result
             (E.contents self.old.errors) (E.contents self.new.errors) }
     {
-        match line_of(self.alloc, error.path(), error.fault()) {
-            Ok(line) => write_out(line.as_bytes(), &mut self.errors),
-            Err(_) => Err(ServeError::OutOfMemory),
+        match error {
+            NodeError::File(error) => self.tell_at(error.path(), error.fault()),
+            NodeError::Database(fault) => self.tell(*fault),
         }
     }
 

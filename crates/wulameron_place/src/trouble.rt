@@ -1,9 +1,9 @@
 //! What goes wrong at a log.
 
 ghost use Rattle.std.specs.Prelude.{◌≡◌, Option};
-ghost use Rattle.iceoryx2_file_log.specs.declared.error.FileFault as declared-fault;
 ghost use Rattle.wulameron_place.specs.declared.trouble.Trouble as declared;
-ghost use Rattle.wulameron_place.specs.Troubles.{advice_of, concern_held_of, concern_of, is_last, kind_advice_of, last_of, trouble_of};
+ghost use Rattle.wulameron_place.specs.Troubles.{advice_of, database_advice_of, database_concern_of, file_concern_held_of};
+ghost use Rattle.wulameron_place.specs.Troubles.{file_concern_of, is_last, kind_advice_of, last_of, trouble_of};
 
 use iceoryx2_file_log::cursor::State;
 use iceoryx2_file_log::error::FileFault;
@@ -11,10 +11,12 @@ use iceoryx2_file_log::file_log::FileLog;
 use iceoryx2_journal::journal::Journal;
 use iceoryx2_log::call_log::CallLog;
 use iceoryx2_log::log::Log;
+use iceoryx2_postgres_log::fault::PostgresFault;
+use iceoryx2_postgres_log::postgres_log::PostgresLog;
 use iceoryx2_testing::traced::Traced;
 use std::fmt;
 use std::fs::File;
-use std::io::ErrorKind;
+use std::io::{BufRead, ErrorKind, Write};
 use std::rt::Files;
 use std::time::Clock;
 
@@ -26,6 +28,8 @@ pub enum Trouble {
     Over,
     /// The log's file refused.
     Refused(FileFault),
+    /// The database that has the log refused.
+    Database(PostgresFault),
 }
 
 impl Trouble {
@@ -40,6 +44,10 @@ impl Trouble {
                 FileFault::Unsure => true,
                 FileFault::Removed => true,
                 _ => false,
+            },
+            Trouble::Database(fault) => match fault {
+                PostgresFault::Damaged { number: _ } => true,
+                _ => fault.is_over(),
             },
         }
     }
@@ -86,6 +94,36 @@ pub fn advice(fault: FileFault) -> &'static str
     }
 }
 
+/// What can be done where a database refused.
+pub fn database_advice(fault: PostgresFault) -> &'static str
+    ensures { result.now ≡ database_advice_of fault }
+{
+    match fault {
+        PostgresFault::Busy => "try again, or with a longer --wait",
+        PostgresFault::OutOfMemory => "free memory, and try again",
+        PostgresFault::SessionEnded => "see whether the server runs, and start the program again",
+        PostgresFault::Unsure => "start the program again",
+        PostgresFault::NotUnderstood =>
+            "start it by wulameron-postgres, with the server's messages in English",
+        PostgresFault::NoSchema => "have its owner run schema.sql in it",
+        PostgresFault::AnotherVersion { found: _ } => "use a program of that version",
+        PostgresFault::NoLog => "name another log, or make it by `wulameron run`",
+        PostgresFault::BadName => "name it by letters, digits, points, dashes and underscores",
+        PostgresFault::NoRight => "have its owner grant wulameron_node to the role",
+        PostgresFault::ReadOnly => "connect to the server that takes writes",
+        PostgresFault::AnotherHistory => "start the program again",
+        PostgresFault::Damaged { number: _ } => "begin another log",
+        PostgresFault::HeldAlready => "start the program again",
+        PostgresFault::NotHeld => "start the program again",
+        PostgresFault::IsAMark => "start the program again",
+        PostgresFault::Unread => "start the program again",
+        PostgresFault::TooLong => "give the service fewer attributes",
+        PostgresFault::Moved => "try again",
+        PostgresFault::NothingSaved => "leave it",
+        PostgresFault::Refused { state: _ } => "see the server's log",
+    }
+}
+
 impl fmt::Display for Trouble {
     ghost use Rattle.wulameron_place.specs.Troubles.{trouble_text};
 
@@ -98,45 +136,56 @@ impl fmt::Display for Trouble {
                 "has an entry that this program can't follow; start it with a node of its own"
             ),
             Trouble::Refused(fault) => write!(f, "{fault}; {}", advice(*fault)),
+            Trouble::Database(fault) => write!(f, "{fault}; {}", database_advice(*fault)),
         }
     }
 }
 
 /// What goes wrong where this is over, or its log refused last for this reason.
-pub fn trouble_with(is_over: bool, refused: Option<FileFault>) -> Option<Trouble>
+pub fn trouble_with(is_over: bool, refused: Option<Trouble>) -> Option<Trouble>
     ensures { result ≡ trouble_of is_over refused }
 {
     if is_over {
         return Some(Trouble::Over);
     }
-    match refused {
-        Some(fault) => Some(Trouble::Refused(fault)),
-        None => None,
-    }
+    refused
 }
 
-/// What a user has to know of why a log refused. That it goes on in another file, and that a compaction would save too
-/// little, nobody has to: the program goes on by itself.
-fn concern(fault: Option<FileFault>) -> Option<FileFault>
-    ensures { result ≡ concern_of fault }
+/// What a user has to know of why a log in a file refused. That it goes on in another file, and that a compaction would
+/// save too little, nobody has to: the program goes on by itself.
+fn file_concern(fault: Option<FileFault>) -> Option<Trouble>
+    ensures { result ≡ file_concern_of fault }
 {
     match fault {
+        None => None,
         Some(FileFault::Moved) => None,
         Some(FileFault::NothingSaved) => None,
-        _ => fault,
+        Some(fault) => Some(Trouble::Refused(fault)),
     }
 }
 
 /// The same, but for damage that was found by a handle of this state while it wasn't held.
-fn concern_held(state: State, fault: Option<FileFault>) -> Option<FileFault>
-    ensures { result ≡ concern_held_of state fault }
+fn file_concern_held(state: State, fault: Option<FileFault>) -> Option<Trouble>
+    ensures { result ≡ file_concern_held_of state fault }
 {
     match fault {
         Some(FileFault::Damaged { at: _ }) => match state {
-            State::Damaged { at: _ } => fault,
+            State::Damaged { at: _ } => file_concern(fault),
             _ => None,
         },
-        _ => concern(fault),
+        _ => file_concern(fault),
+    }
+}
+
+/// The same of a log in a database.
+fn database_concern(fault: Option<PostgresFault>) -> Option<Trouble>
+    ensures { result ≡ database_concern_of fault }
+{
+    match fault {
+        None => None,
+        Some(PostgresFault::Moved) => None,
+        Some(PostgresFault::NothingSaved) => None,
+        Some(fault) => Some(Trouble::Database(fault)),
     }
 }
 
@@ -153,32 +202,47 @@ pub trait Troubled {
 /// A log that keeps why it refused.
 pub trait Refusing: Log {
     /// Why it refused last.
-    ghost refused: { Self → Option declared-fault.FileFault };
+    ghost refused: { Self → Option declared.Trouble };
 
     /// Why it refused last, but for damage that was found while it wasn't held.
-    ghost refused_held: { Self → Option declared-fault.FileFault };
+    ghost refused_held: { Self → Option declared.Trouble };
 
     /// Why it refused last.
-    fn refused(&self) -> Option<FileFault>
+    fn refused(&self) -> Option<Trouble>
         ensures { result ≡ refused self.now };
 
     /// Why it refused last, but for damage that was found while it wasn't held: others may have written over what a
     /// writer left that died. Whoever holds it next finds out.
-    fn refused_held(&self) -> Option<FileFault>
+    fn refused_held(&self) -> Option<Trouble>
         ensures { result ≡ refused_held self.now };
 }
 
 impl<R: Files<File = File> + Clock + AllocGlobal> Refusing for FileLog<R> {
-    ghost refused = { λ log. concern_of log.fault };
+    ghost refused = { λ log. file_concern_of log.fault };
 
-    ghost refused_held = { λ log. concern_held_of log.cursor.state log.fault };
+    ghost refused_held = { λ log. file_concern_held_of log.cursor.state log.fault };
 
-    fn refused(&self) -> Option<FileFault> {
-        concern(self.fault())
+    fn refused(&self) -> Option<Trouble> {
+        file_concern(self.fault())
     }
 
-    fn refused_held(&self) -> Option<FileFault> {
-        concern_held(self.state(), self.fault())
+    fn refused_held(&self) -> Option<Trouble> {
+        file_concern_held(self.state(), self.fault())
+    }
+}
+
+// A row of a database is whole wherever it is read.
+impl<R: BufRead, W: Write> Refusing for PostgresLog<R, W> {
+    ghost refused = { λ log. database_concern_of log.fault };
+
+    ghost refused_held = { λ log. database_concern_of log.fault };
+
+    fn refused(&self) -> Option<Trouble> {
+        database_concern(self.fault())
+    }
+
+    fn refused_held(&self) -> Option<Trouble> {
+        database_concern(self.fault())
     }
 }
 
@@ -188,11 +252,11 @@ impl<L: Refusing> Refusing for CallLog<L> {
 
     ghost refused_held = { λ l. L.refused_held l.log };
 
-    fn refused(&self) -> Option<FileFault> {
+    fn refused(&self) -> Option<Trouble> {
         self.log().refused_held()
     }
 
-    fn refused_held(&self) -> Option<FileFault> {
+    fn refused_held(&self) -> Option<Trouble> {
         self.log().refused_held()
     }
 }

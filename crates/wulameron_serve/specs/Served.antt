@@ -4,7 +4,6 @@ use Rattle.iceoryx2_access.specs.Letter.{Letter}
 use Rattle.iceoryx2_testing.specs.Trace.{TracedState, IsTracedAccess}
 use Rattle.iceoryx2_world.specs.World.{World}
 use Rattle.iceoryx2_world.specs.Across.{Agrees}
-use Rattle.iceoryx2_file_log.specs.declared.error.FileFault.{FileFault}
 use Rattle.iceoryx2_journal.specs.Journal.{JournalState, IsAccessOver, Spans}
 use Rattle.iceoryx2_journal.specs.Owed.{OwesNothing}
 use Rattle.iceoryx2_journal.specs.Replay.{Lives}
@@ -55,10 +54,10 @@ pub record EndsSettled {S : Type 0} (settles : S → S → Type 0) (is_settled :
   pub ends : (ended ≡ served) ⊎ (ended ≡ Err halt.Owing)
 
 -- what goes wrong at a journal
-abbrev pub trouble_at : {L : Type 0} → (refused : L → Option FileFault) → JournalState L → Option Trouble
+abbrev pub trouble_at : {L : Type 0} → (refused : L → Option Trouble) → JournalState L → Option Trouble
 trouble_at refused j = trouble_of j.is_over (refused j.log)
 
-module _ {L : Type 0} (contents : L → Option Contents) (held : L → Bool) (refused : L → Option FileFault) (log : L)
+module _ {L : Type 0} (contents : L → Option Contents) (held : L → Bool) (refused : L → Option Trouble) (log : L)
     (counter node : ℕ) (w : WrongLines) where
   -- The node is started over a journal of the log, what dead nodes have is given back, and then it serves.
   pub record StartsLog (ended : Result Ending Halt) (input : List ℕ) (old new : Option (List ℕ)) : Type 0 where

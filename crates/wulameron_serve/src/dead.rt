@@ -179,7 +179,7 @@ fn clean_one<S: WorldStorage, D: DeadNodes>(session: &mut Session<S>, dead: &D, 
         return false;
     };
     let cleaned = session.clean(node);
-    drop(claim);
+    dead.give_back(claim);
     gave(cleaned)
 }
 

@@ -1,4 +1,4 @@
-//! The whole program: an input in, its answers out, over the log in a file.
+//! The whole program: an input in, its answers out, over the log of a place.
 
 ghost use Rattle.std.specs.Prelude.{◌≡◌, ℕ, List, Some};
 ghost use Rattle.iceoryx2_session.specs.SessionStates.{own_state};
@@ -10,7 +10,7 @@ use crate::answerer::NodeAnswerer;
 use crate::lines::serve_until;
 use crate::view::Viewed;
 use explain_serve::explainer::with_room;
-use iceoryx2_log::call_log::{CallLog, SpansCalls};
+use iceoryx2_log::call_log::SpansCalls;
 use iceoryx2_session::world_storage::WorldStorage;
 use negotiate_serve::ending::{Ending, FAULT, ServeError, WrongLines, status};
 use std::fs::File;
@@ -18,15 +18,15 @@ use std::io::{Read, Write};
 use std::random::RandomSource;
 use std::rt::Files;
 use std::time::Clock;
-use wulameron_arguments::asked::{Place, Run};
-use wulameron_place::dead::{DeadNodes, NodeFiles};
+use wulameron_arguments::asked::Run;
+use wulameron_place::dead::{DeadNodes, PlaceNodes};
 use wulameron_place::halt::Halt;
 use wulameron_place::node_log::NodeLog;
 use wulameron_place::opening::{claim, open};
 use wulameron_place::reports::Reports;
 use wulameron_place::trouble::{Refusing, Troubled};
 
-/// Answers the lines of an input over the log in a file, which is made where there is none, and gives the status with
+/// Answers the lines of an input over the log of a place, which is made where there is none, and gives the status with
 /// which the program ends: 0 at the end of the input, 2 after a line that ends a strict run, and 3 after a failure, of
 /// which the writer of errors has a line. The node is claimed as long as it runs.
 pub fn run<
@@ -35,40 +35,30 @@ pub fn run<
     W: Write,
     E: Write,
 >(rt: F, run: &Run<'_>, input: R, output: &mut W, errors: &mut E) -> u8 {
-    let place = Place {
-        at: run.at,
-        options: run.options,
-    };
-    let mut reports = Reports::new(rt.alloc(), run.at, errors);
-    let Some(token) = claim(&rt, place, run.node, &mut reports) else {
+    let place = run.place;
+    let mut reports = Reports::new(rt.alloc(), place.at, errors);
+    let Some(claim) = claim(&rt, place, run.node, &mut reports) else {
         return FAULT;
     };
-    let node = token.node();
+    let node = claim.node();
     if run.node.is_none() {
         let _ = tell_node(node, &mut reports);
     }
     let status = match open(&rt, place, &mut reports) {
         None => FAULT,
-        Some(file) => {
-            let counter = file.header().counter;
-            let log = NodeLog {
-                log: CallLog::new(file),
-                counter,
-                node,
-            };
-            let dead = NodeFiles {
+        Some(log) => {
+            let dead = PlaceNodes {
                 rt: &rt,
-                path: run.at,
-                sharing: run.options.sharing,
+                place,
                 cleans: run.cleans,
             };
             report_end(
-                serve_log(log, dead, run, input, output, &mut reports),
+                serve_log(log.for_node(node), dead, run, input, output, &mut reports),
                 &mut reports,
             )
         }
     };
-    drop(token);
+    drop(claim);
     status
 }
 

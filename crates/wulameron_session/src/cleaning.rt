@@ -1,7 +1,7 @@
 //! The call by which it is cleaned up for dead nodes.
 
 use crate::log_nodes::SharedNodes;
-use crate::texts::{LOG, NODE_ALIVE, of_monitoring, of_trouble, text_frame};
+use crate::texts::{LOG, NODE_ALIVE, of_node_error, of_trouble, text_frame};
 use iceoryx2_journal::cleaning::Cleaned;
 use iceoryx2_session::session::Session;
 use iceoryx2_session::world_storage::WorldStorage;
@@ -63,7 +63,7 @@ fn unfound_frame(alloc: Global, why: &Unfound) -> Frame {
     match why {
         Unfound::NotDead(NotDead::IsAlive { node: _ }) => with_code(alloc, NODE_ALIVE),
         Unfound::NotDead(NotDead::NeverClaimed { node: _ }) => with_code(alloc, NO_SUCH_ITEM),
-        Unfound::Failed(error) => of_monitoring(alloc, error),
+        Unfound::Failed(error) => of_node_error(alloc, error),
         Unfound::OutOfMemory => with_code(alloc, OUT_OF_MEMORY),
     }
 }
@@ -79,7 +79,7 @@ fn clean_node<S: WorldStorage, D: DeadNodes>(
         Err(Unclaimed::Refused) => Found::Refused,
         Ok(claim) => {
             let cleaned = session.clean(node);
-            drop(claim);
+            dead.give_back(claim);
             found_by(cleaned)
         }
     }

@@ -6,7 +6,7 @@ ghost use Rattle.negotiate_lines.specs.declared.line.Line.TheVariants as parsed;
 use crate::cleaning::clean;
 use crate::log_nodes::SharedNodes;
 use crate::sending::send;
-use crate::texts::{BAD_LINE, done_text_frame, of_last_trouble, of_monitoring, text_frame};
+use crate::texts::{BAD_LINE, done_text_frame, of_last_trouble, of_node_error, text_frame};
 use iceoryx2_commands::command::{Command, SLOTS};
 use iceoryx2_monitoring::state::{NodeState, NodeStatus};
 use negotiate_lines::line::{self, Line};
@@ -194,7 +194,7 @@ impl<S: Viewed + Troubled, N: SharedNodes + Drop> NodeSession<S, N> {
                     },
                 )
             }
-            Err(error) => of_monitoring(alloc, &error),
+            Err(error) => of_node_error(alloc, &error),
         }
     }
 

@@ -1,11 +1,10 @@
-//! The command that holds a session over the log in a file.
+//! The command that holds a session over the log of a place.
 
 use crate::log_nodes::{LogNodes, SharedNodes};
 use crate::node_session::NodeSession;
 use crate::serving::{Stop, serve, write_frame};
-use crate::texts::{of_monitoring, of_trouble};
-use iceoryx2_file_log::file_log::FileLog;
-use iceoryx2_log::call_log::{CallLog, SpansCalls};
+use crate::texts::{of_node_error, of_trouble};
+use iceoryx2_log::call_log::SpansCalls;
 use negotiate_serve::ending::{DONE, FAULT};
 use std::alloc::Global;
 use std::fs::File;
@@ -16,15 +15,16 @@ use std::time::Clock;
 use wulameron_arguments::asked::Session;
 use wulameron_calls::replies::{self, OUT_OF_MEMORY, only, with_code, with_numbers};
 use wulameron_frame::frame::{Frame, Numbers, VERSION};
-use wulameron_place::dead::NodeFiles;
+use wulameron_place::claims::claim_node;
+use wulameron_place::dead::PlaceNodes;
 use wulameron_place::halt::Halt;
 use wulameron_place::node_log::NodeLog;
-use wulameron_place::opening::claimed;
+use wulameron_place::opening::opened;
 use wulameron_place::reports::Reports;
 use wulameron_place::trouble::{Refusing, Trouble, Troubled, last_trouble};
 use wulameron_serve::view::Viewed;
 
-/// Holds a session over the log in a file, which is made where there is none, and answers the calls of the input until it
+/// Holds a session over the log of a place, which is made where there is none, and answers the calls of the input until it
 /// ends. The node is claimed as long. The first frame that is written answers no call: it tells the node, or what went
 /// wrong. What the slots hold is closed at the end.
 ///
@@ -36,13 +36,13 @@ pub fn session<
     W: Write,
 >(rt: F, asked: &Session<'_>, input: R, output: &mut W) -> u8 {
     let alloc = rt.alloc();
-    match claimed(&rt, asked.place, asked.node) {
-        Ok(token) => {
-            let status = session_as(&rt, token.node(), asked, input, output);
-            drop(token);
+    match claim_node(&rt, asked.place, asked.node) {
+        Ok(claim) => {
+            let status = session_as(&rt, claim.node(), asked, input, output);
+            drop(claim);
             status
         }
-        Err(error) => refuse(alloc, &of_monitoring(alloc, &error), output),
+        Err(error) => refuse(alloc, &of_node_error(alloc, &error), output),
     }
 }
 
@@ -62,32 +62,18 @@ fn session_as<F: Files<File = File> + Clock + RandomSource + AllocGlobal, R: Rea
 ) -> u8 {
     let alloc = rt.alloc();
     let place = asked.place;
-    let Ok(path) = format!(in alloc; "{}", place.at) else {
-        return refuse(alloc, &with_code(alloc, OUT_OF_MEMORY), output);
-    };
-    match FileLog::open(rt, path, place.options) {
+    match opened(rt, place) {
         Ok(log) => {
-            let counter = log.header().counter;
-            let node_log = NodeLog {
-                log: CallLog::new(log),
-                counter,
-                node,
-            };
             let nodes = LogNodes {
-                files: NodeFiles {
+                nodes: PlaceNodes {
                     rt,
-                    path: place.at,
-                    sharing: place.options.sharing,
+                    place,
                     cleans: asked.cleans,
                 },
-                options: place.options,
             };
-            serve_log(alloc, node_log, nodes, input, output)
+            serve_log(alloc, log.for_node(node), nodes, input, output)
         }
-        Err(error) => {
-            let trouble = Trouble::Refused(error.fault());
-            refuse(alloc, &of_trouble(alloc, trouble), output)
-        }
+        Err(trouble) => refuse(alloc, &of_trouble(alloc, trouble), output),
     }
 }
 

@@ -6,6 +6,7 @@ use iceoryx2_monitoring::error::{MonitoringError, MonitoringFault};
 use std::alloc::{AllocError, Global};
 use wulameron_calls::replies::{DONE, OUT_OF_MEMORY, only, with_code};
 use wulameron_frame::frame::Frame;
+use wulameron_place::claims::{NodeError, NodeFault};
 use wulameron_place::trouble::{Trouble, Troubled, last_trouble};
 
 /// The log or a node's file refused; the text tells which and why.
@@ -50,8 +51,22 @@ pub fn of_trouble(alloc: Global, trouble: Trouble) -> Frame {
     text_frame(alloc, LOG, format!(in alloc; "the log {trouble}"))
 }
 
+/// The reply where a node isn't claimed, or not looked at.
+pub fn of_node_error(alloc: Global, error: &NodeError) -> Frame {
+    match error {
+        NodeError::File(error) => of_monitoring(alloc, error),
+        NodeError::Database(fault) => {
+            let code = match fault {
+                NodeFault::Refused(_) => LOG,
+                _ => NODE_IN_USE,
+            };
+            text_frame(alloc, code, format!(in alloc; "the log's {fault}"))
+        }
+    }
+}
+
 /// The reply where a node's file or the log's folder refuses.
-pub fn of_monitoring(alloc: Global, error: &MonitoringError) -> Frame {
+fn of_monitoring(alloc: Global, error: &MonitoringError) -> Frame {
     let code = match error.fault() {
         MonitoringFault::NodeIsAlive { node: _ } => NODE_IN_USE,
         MonitoringFault::NoFreeNode => NODE_IN_USE,

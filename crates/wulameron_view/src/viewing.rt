@@ -1,4 +1,4 @@
-//! The commands that look at a log in a file. They claim no node, make no file, and append nothing.
+//! The commands that look at a log. They claim no node, make no log, and append nothing.
 
 ghost use Rattle.std.specs.Prelude.{◌≡◌, ℕ, List, Some, IfOk, string_bytes};
 ghost use Rattle.wulameron_place.specs.Troubles.{WritesLine, trouble_line};
@@ -28,7 +28,7 @@ const NO_SERVICE: &str = "has no such service; see `wulameron list`";
 
 const SEVERAL_SERVICES: &str = "has several services of this name; name one by --pattern";
 
-/// Prints which services there are over the log in a file, as a table or as JSON. Gives the status with which the
+/// Prints which services there are over the log of a place, as a table or as JSON. Gives the status with which the
 /// program ends: 0, or 3 after a failure, of which the writer of errors has a line.
 pub fn list<F: Files<File = File> + Clock + RandomSource + AllocGlobal, W: Write, E: Write>(
     rt: &F,
@@ -62,7 +62,7 @@ pub fn list_over<L: Refusing, W: Write, E: Write>(
     end_look(journal.trouble(), looked, reports)
 }
 
-/// Prints what was agreed of a service over the log in a file, and who has it, as lines or as JSON. Gives the status
+/// Prints what was agreed of a service over the log of a place, and who has it, as lines or as JSON. Gives the status
 /// with which the program ends: 0; 1 where not one service is the wanted one; or 3 after a failure. The writer of
 /// errors has a line of these.
 pub fn show<F: Files<File = File> + Clock + RandomSource + AllocGlobal, W: Write, E: Write>(
