@@ -72,6 +72,8 @@ fn followed(rt: &HostRuntime) -> Option<(u8, Vec<u8>)> {
         place: Place {
             at: &path,
             options: FileLogOptions::new(),
+            psql: None,
+            pipes: None,
         },
         follows: true,
         from: 0,

@@ -5,21 +5,26 @@
 
 use clap::Error;
 use clap::error::ErrorKind;
+use iceoryx2_postgres_log::fault::PostgresFault;
 use negotiate_serve::ending::{FAULT, NOT_A_COMMAND, ServeError};
 use negotiate_serve::report::report_failure;
 use std::process::ExitCode;
 use std::{env, io};
 use wulameron_arguments::arguments::arguments;
-use wulameron_arguments::asked::Asked;
+use wulameron_arguments::asked::{Asked, Place};
 use wulameron_arguments::home::{DefaultLog, default_log, make_folder};
+use wulameron_arguments::pipes::{Pipes, PipesError};
 use wulameron_hold::hold::hold;
 use wulameron_place::clean::clean;
 use wulameron_place::reports::Reports;
+use wulameron_place::trouble::Trouble;
 use wulameron_serve::run::run;
 use wulameron_session::session::session;
 use wulameron_trail::commands::{check, log, watch};
 use wulameron_trail::pauses::Sleeper;
 use wulameron_view::viewing::{list, nodes, show};
+
+const NO_LAUNCHER: &str = "is a log in a database; start this by wulameron-postgres";
 
 /// Prints what the words asked for, or what is wrong with them, and gives the status.
 fn print(rt: &HostRuntime, error: &Error) -> u8 {
@@ -56,6 +61,38 @@ fn is_prepared(rt: &HostRuntime, default: Option<&DefaultLog>, asked: &Asked<'_>
     }
 }
 
+/// The pipes to the database that has the log. `None` where the log is in a file.
+///
+/// The status with which the program ends where there are none, of which the standard error has a line.
+fn pipes_to(rt: &HostRuntime, place: Place<'_>) -> Result<Option<Pipes>, u8> {
+    if place.database_log().is_none() {
+        return Ok(None);
+    }
+    let mut reports = Reports::new(rt.alloc(), place.at, rt.stderr());
+    let Some(word) = place.psql else {
+        let _ = reports.tell(NO_LAUNCHER);
+        return Err(NOT_A_COMMAND);
+    };
+    match Pipes::open(rt, word) {
+        Ok(pipes) => Ok(Some(pipes)),
+        Err(PipesError::NotTwo) => {
+            let _ = reports.tell(NO_LAUNCHER);
+            Err(NOT_A_COMMAND)
+        }
+        Err(PipesError::Refused) => {
+            let _ = reports.tell(Trouble::Database(PostgresFault::SessionEnded));
+            Err(FAULT)
+        }
+    }
+}
+
+/// Carries out what is asked for over the pipes to a database, if there are any, and gives the status.
+fn answer_over<'a>(rt: &HostRuntime, asked: Asked<'a>, pipes: Option<&'a Pipes>) -> u8 {
+    let mut asked = asked;
+    asked.place().pipes = pipes;
+    answer(rt, asked)
+}
+
 /// Carries out what is asked for, and gives the status.
 fn answer(rt: &HostRuntime, asked: Asked<'_>) -> u8 {
     let mut output = io::writer(rt);
@@ -87,10 +124,14 @@ fn carry_out(rt: &HostRuntime, default: Option<&DefaultLog>, words: &[String]) -
     };
     match arguments(rt.alloc(), home, words) {
         Ok(Some(asked)) => {
-            if is_prepared(rt, default, &asked) {
-                return answer(rt, asked);
+            let mut asked = asked;
+            if !is_prepared(rt, default, &asked) {
+                return FAULT;
             }
-            FAULT
+            match pipes_to(rt, *asked.place()) {
+                Ok(pipes) => answer_over(rt, asked, pipes.as_ref()),
+                Err(status) => status,
+            }
         }
         Ok(None) => {
             let _ = eprintln!(rt; "usage: wulameron COMMAND; wulameron --help lists the commands");

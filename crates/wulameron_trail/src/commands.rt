@@ -5,23 +5,28 @@ ghost use Rattle.wulameron_trail.specs.Commands.{WritesVerdict, WritesVerdictOf,
 ghost use Rattle.wulameron_trail.specs.Commands.{verdict_status as status_of_verdict};
 
 use crate::checker::{Verdict, check as verdict_on};
-use crate::following::{LogFile, follow, open_file};
+use crate::following::{LogFile, Source, follow, open_file};
 use crate::pauses::Pauses;
 use crate::printing::{Rest, show_entry};
+use crate::rows::LogRows;
 use crate::showing::{Changes, Lines};
 use crate::stopping::Stop;
 use crate::verdicts::verdict_text;
 use iceoryx2_file_log::error::{FileFault, system_fault};
+use iceoryx2_postgres_log::fault::PostgresFault;
 use negotiate_serve::ending::{DONE, FAULT, ServeError};
 use negotiate_serve::output::write_out;
 use std::alloc::Global;
 use std::fmt;
 use std::fs::File;
 use std::io::{Read, Write};
+use std::random::RandomSource;
 use std::rt::Files;
+use std::time::Clock;
 use wulameron_arguments::asked::{LogLook, Look, Place};
+use wulameron_place::opening::opened_view;
 use wulameron_place::reports::Reports;
-use wulameron_place::trouble::Trouble;
+use wulameron_place::trouble::{Refusing, Trouble};
 
 /// The status where a log isn't sound.
 pub const NOT_SOUND: u8 = 1;
@@ -29,27 +34,38 @@ pub const NOT_SOUND: u8 = 1;
 /// Prints the entries of a log, and gives the status: 0, or 3 where the log can't be read to its end, the output fails
 /// or there is no memory, of which the writer of errors has a line. Where it is to follow the log it goes on as that
 /// grows, until a pause ends it.
-pub fn log<F: Files<File = File> + AllocGlobal, I: Pauses, W: Write, E: Write>(
-    rt: &F,
-    asked: &LogLook<'_>,
-    pauses: &mut I,
-    output: &mut W,
-    errors: &mut E,
-) -> u8 {
-    let mut reports = Reports::new(rt.alloc(), asked.place.at, errors);
-    match LogFile::open(rt, asked.place.at) {
+pub fn log<
+    F: Files<File = File> + Clock + RandomSource + AllocGlobal,
+    I: Pauses,
+    W: Write,
+    E: Write,
+>(rt: &F, asked: &LogLook<'_>, pauses: &mut I, output: &mut W, errors: &mut E) -> u8 {
+    let alloc = rt.alloc();
+    let place = asked.place;
+    let mut reports = Reports::new(alloc, place.at, errors);
+    if place.database().is_some() {
+        return match opened_view(rt, place) {
+            Ok(open) => {
+                let mut rows = LogRows::new(open);
+                let ended = print_log(alloc, asked, &mut rows, pauses, output);
+                report_end("row", rows.at(), ended, &mut reports)
+            }
+            Err(trouble) => report_refused(trouble, &mut reports),
+        };
+    }
+    match LogFile::open(rt, place.at) {
         Ok(mut log) => {
-            let ended = print_log(rt, asked, &mut log, pauses, output);
-            report_end(log.at(), ended, &mut reports)
+            let ended = print_log(alloc, asked, &mut log, pauses, output);
+            report_end("byte", log.at(), ended, &mut reports)
         }
-        Err(fault) => report_refused(fault, &mut reports),
+        Err(fault) => report_refused(Trouble::Refused(fault), &mut reports),
     }
 }
 
-fn print_log<F: Files<File = File> + AllocGlobal, I: Pauses, W: Write>(
-    rt: &F,
+fn print_log<S: Source, I: Pauses, W: Write>(
+    alloc: Global,
     asked: &LogLook<'_>,
-    log: &mut LogFile,
+    source: &mut S,
     pauses: &mut I,
     output: &mut W,
 ) -> Result<(), Stop> {
@@ -58,19 +74,19 @@ fn print_log<F: Files<File = File> + AllocGlobal, I: Pauses, W: Write>(
         from: asked.from,
     };
     if asked.follows {
-        return follow(rt, asked.place.at, log, &mut lines, pauses, output);
+        return follow(alloc, source, &mut lines, pauses, output);
     }
-    print_once(rt.alloc(), log, &mut lines, output)
+    print_once(alloc, source, &mut lines, output)
 }
 
 /// Prints the entries that are written, and a mark after them.
-fn print_once<W: Write>(
+fn print_once<S: Source, W: Write>(
     alloc: Global,
-    log: &mut LogFile,
+    source: &mut S,
     lines: &mut Lines,
     output: &mut W,
 ) -> Result<(), Stop> {
-    match log.look(alloc, lines, output)? {
+    match source.look(alloc, lines, output)? {
         Rest::Ended => Ok(()),
         Rest::Moved(mark) => {
             let mut text = String::new(alloc);
@@ -80,40 +96,52 @@ fn print_once<W: Write>(
 }
 
 /// Prints what each entry changes that comes from now on, until a pause ends it, and gives the status as `log` does.
-pub fn watch<F: Files<File = File> + AllocGlobal, I: Pauses, W: Write, E: Write>(
-    rt: &F,
-    asked: &Look<'_>,
-    pauses: &mut I,
-    output: &mut W,
-    errors: &mut E,
-) -> u8 {
-    let mut reports = Reports::new(rt.alloc(), asked.place.at, errors);
-    match LogFile::open(rt, asked.place.at) {
+pub fn watch<
+    F: Files<File = File> + Clock + RandomSource + AllocGlobal,
+    I: Pauses,
+    W: Write,
+    E: Write,
+>(rt: &F, asked: &Look<'_>, pauses: &mut I, output: &mut W, errors: &mut E) -> u8 {
+    let alloc = rt.alloc();
+    let place = asked.place;
+    let mut reports = Reports::new(alloc, place.at, errors);
+    if place.database().is_some() {
+        return match opened_view(rt, place) {
+            Ok(open) => {
+                let mut rows = LogRows::new(open);
+                let ended = print_changes(alloc, asked, &mut rows, pauses, output);
+                report_end("row", rows.at(), ended, &mut reports)
+            }
+            Err(trouble) => report_refused(trouble, &mut reports),
+        };
+    }
+    match LogFile::open(rt, place.at) {
         Ok(mut log) => {
-            let ended = print_changes(rt, asked, &mut log, pauses, output);
-            report_end(log.at(), ended, &mut reports)
+            let ended = print_changes(alloc, asked, &mut log, pauses, output);
+            report_end("byte", log.at(), ended, &mut reports)
         }
-        Err(fault) => report_refused(fault, &mut reports),
+        Err(fault) => report_refused(Trouble::Refused(fault), &mut reports),
     }
 }
 
-fn print_changes<F: Files<File = File> + AllocGlobal, I: Pauses, W: Write>(
-    rt: &F,
+fn print_changes<S: Source, I: Pauses, W: Write>(
+    alloc: Global,
     asked: &Look<'_>,
-    log: &mut LogFile,
+    source: &mut S,
     pauses: &mut I,
     output: &mut W,
 ) -> Result<(), Stop> {
     let mut changes = Changes {
-        world: log.services(rt.alloc())?,
+        world: source.services(alloc)?,
         is_json: asked.is_json,
     };
-    follow(rt, asked.place.at, log, &mut changes, pauses, output)
+    follow(alloc, source, &mut changes, pauses, output)
 }
 
-/// Prints whether a log is sound, and gives the status: 0, 1 where it isn't, or 3 where its file can't be read, the
-/// output fails or there is no memory, of which the writer of errors has a line.
-pub fn check<F: Files<File = File> + AllocGlobal, W: Write, E: Write>(
+/// Prints whether a log is sound, and gives the status: 0, 1 where it isn't, or 3 where it can't be read, the output
+/// fails or there is no memory, of which the writer of errors has a line. A log in a database is read from the snapshot
+/// with which it begins, as the bytes that it would have in a file.
+pub fn check<F: Files<File = File> + Clock + RandomSource + AllocGlobal, W: Write, E: Write>(
     rt: &F,
     place: &Place<'_>,
     output: &mut W,
@@ -121,17 +149,46 @@ pub fn check<F: Files<File = File> + AllocGlobal, W: Write, E: Write>(
 ) -> u8 {
     let alloc = rt.alloc();
     let mut reports = Reports::new(alloc, place.at, errors);
-    match read_whole(rt, place.at) {
-        Ok(bytes) => match print_verdict(alloc, &bytes, output) {
-            Ok(status) => status,
-            Err(fault) => reports.fail(fault),
-        },
-        Err(fault) => report_refused(fault, &mut reports),
+    if place.database().is_some() {
+        return match opened_view(rt, *place) {
+            Ok(open) => check_rows(alloc, LogRows::new(open), output, &mut reports),
+            Err(trouble) => report_refused(trouble, &mut reports),
+        };
+    }
+    match read_file(rt, place.at) {
+        Ok(bytes) => end_check(print_verdict(alloc, &bytes, output), &mut reports),
+        Err(fault) => report_refused(Trouble::Refused(fault), &mut reports),
+    }
+}
+
+/// Prints whether a log in a database is sound.
+fn check_rows<L: Refusing + Drop, W: Write, E: Write>(
+    alloc: Global,
+    rows: LogRows<L>,
+    output: &mut W,
+    reports: &mut Reports<'_, E>,
+) -> u8 {
+    let mut rows = rows;
+    match rows.bytes(alloc) {
+        Ok(bytes) => end_check(print_verdict(alloc, &bytes, output), reports),
+        Err(Stop::Refused(Trouble::Database(PostgresFault::Damaged { number: _ }))) => {
+            end_check(write_verdict(alloc, rows.damage(), output), reports)
+        }
+        Err(Stop::Refused(trouble)) => report_refused(trouble, reports),
+        Err(stop) => report_end("row", rows.at(), Err(stop), reports),
+    }
+}
+
+/// The status where a verdict was printed, or the failure is told.
+fn end_check<E: Write>(printed: Result<u8, ServeError>, reports: &mut Reports<'_, E>) -> u8 {
+    match printed {
+        Ok(status) => status,
+        Err(fault) => reports.fail(fault),
     }
 }
 
 /// The bytes of the file of this path.
-fn read_whole<F: Files<File = File> + AllocGlobal>(
+fn read_file<F: Files<File = File> + AllocGlobal>(
     rt: &F,
     path: &str,
 ) -> Result<Vec<u8>, FileFault> {
@@ -190,22 +247,28 @@ fn verdict_status(verdict: Verdict) -> u8
 /// An entry that isn't followed.
 #[derive(Clone, Copy, Debug)]
 struct NotAnswered {
-    /// The byte where it begins.
+    /// Whether it is a byte or a row where it begins.
+    unit: &'static str,
     at: u64,
 }
 
 impl fmt::Display for NotAnswered {
     fn fmt<W: fmt::Write>(&self, f: &mut fmt::Formatter<W>) -> fmt::Result {
-        let at = self.at;
+        let NotAnswered { unit, at } = *self;
         write!(
             f,
-            "the entry at byte {at} is not what the services before it answer; check the log"
+            "the entry at {unit} {at} is not what the services before it answer; check the log"
         )
     }
 }
 
-/// Writes the line of what stopped a command at the entry that begins at this byte, and gives the status.
-fn report_end<E: Write>(at: u64, ended: Result<(), Stop>, reports: &mut Reports<'_, E>) -> u8
+/// Writes the line of what stopped a command at the entry that begins there, and gives the status.
+fn report_end<E: Write>(
+    unit: &'static str,
+    at: u64,
+    ended: Result<(), Stop>,
+    reports: &mut Reports<'_, E>,
+) -> u8
     ensures { result ≡ status_of ended }
 {
     let Err(stop) = ended else {
@@ -213,17 +276,17 @@ fn report_end<E: Write>(at: u64, ended: Result<(), Stop>, reports: &mut Reports<
     };
     let _ = match stop {
         Stop::Damaged => reports.tell(Trouble::Refused(FileFault::Damaged { at })),
-        Stop::NotAnswered => reports.tell(NotAnswered { at }),
-        Stop::Refused(fault) => reports.tell(Trouble::Refused(fault)),
+        Stop::NotAnswered => reports.tell(NotAnswered { unit, at }),
+        Stop::Refused(trouble) => reports.tell(trouble),
         Stop::Failed(fault) => reports.tell_failure(fault),
     };
     FAULT
 }
 
-/// Writes why a log's file refused, and gives the status.
-fn report_refused<E: Write>(fault: FileFault, reports: &mut Reports<'_, E>) -> u8
+/// Writes why a log refused, and gives the status.
+fn report_refused<E: Write>(trouble: Trouble, reports: &mut Reports<'_, E>) -> u8
     ensures { result ≡ 3 }
 {
-    let _ = reports.tell_unopened(fault);
+    let _ = reports.tell_unopened(trouble);
     FAULT
 }

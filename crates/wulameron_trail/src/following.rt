@@ -22,6 +22,7 @@ use std::fs::{File, Metadata};
 use std::io::{self, ErrorKind, Read, Seek, SeekFrom, Write};
 use std::os::unix::fs::MetadataExt;
 use std::rt::Files;
+use wulameron_place::trouble::Trouble;
 
 /// Opens the file of this path: `Failed` by `NotFound` where nothing has it.
 pub(crate) fn open_file(rt: &impl Files<File = File>, path: &str) -> Result<File, FileFault> {
@@ -57,39 +58,63 @@ fn header_fault(error: HeaderError) -> FileFault
     }
 }
 
+/// The stop where the log's file refused.
+fn of_file(fault: FileFault) -> Stop {
+    Stop::Refused(Trouble::Refused(fault))
+}
+
+/// Where the entries of a log are read that isn't held.
+pub trait Source {
+    /// Where the next entry begins: a byte of a file, or a number.
+    fn at(&self) -> u64;
+
+    /// Shows the entries from there on, as far as they are written.
+    fn look<P: Shows, W: Write>(
+        &mut self,
+        alloc: Global,
+        shown: &mut P,
+        output: &mut W,
+    ) -> Result<Rest, Stop>;
+
+    /// The services after the entries that are written.
+    fn services(&mut self, alloc: Global) -> Result<StoredWorld, Stop>;
+
+    /// The services after the snapshot with which the log begins.
+    fn services_of_snapshot(&mut self, alloc: Global) -> Result<StoredWorld, Stop>;
+
+    /// Goes to where the log goes on behind a mark. False where that is nowhere yet.
+    fn go_on(&mut self) -> Result<bool, Stop>;
+}
+
 /// A log's file that is read without the lock.
 #[derive(Drop)]
-pub struct LogFile {
+pub struct LogFile<'a, F> {
+    rt: &'a F,
+    path: &'a str,
     file: File,
     header: Header,
     /// The byte where the next entry begins.
     at: u64,
 }
 
-impl LogFile {
+impl<'a, F: Files<File = File> + AllocGlobal> LogFile<'a, F> {
     /// Opens the log's file of this path, before its first entry. It isn't made.
-    pub fn open<F: Files<File = File> + AllocGlobal>(
-        rt: &F,
-        path: &str,
-    ) -> Result<LogFile, FileFault> {
+    pub fn open(rt: &'a F, path: &'a str) -> Result<LogFile<'a, F>, FileFault> {
         let mut file = open_file(rt, path)?;
         let header = read_header(rt.alloc(), &mut file)?;
         Ok(LogFile {
+            rt,
+            path,
             file,
             header,
             at: HEADER_LENGTH as u64,
         })
     }
 
-    /// The byte where the next entry begins.
-    pub fn at(&self) -> u64 {
-        self.at
-    }
-
     fn metadata(&self) -> Result<Metadata, Stop> {
         match self.file.metadata() {
             Ok(metadata) => Ok(metadata),
-            Err(error) => Err(Stop::Refused(system_fault(&error))),
+            Err(error) => Err(of_file(system_fault(&error))),
         }
     }
 
@@ -97,16 +122,38 @@ impl LogFile {
     fn seek(&mut self) -> Result<(), Stop> {
         let length = self.metadata()?.len();
         if length < self.at {
-            return Err(Stop::Refused(FileFault::Damaged { at: length }));
+            return Err(of_file(FileFault::Damaged { at: length }));
         }
         match self.file.seek(SeekFrom::Start(self.at)) {
             Ok(_) => Ok(()),
-            Err(error) => Err(Stop::Refused(system_fault(&error))),
+            Err(error) => Err(of_file(system_fault(&error))),
         }
     }
 
-    /// Shows the entries from there on, as far as they are written.
-    pub fn look<P: Shows, W: Write>(
+    /// The log's file that has the path now, unless that is this one.
+    fn next_file(&self) -> Result<Option<LogFile<'a, F>>, Stop> {
+        let next = match LogFile::open(self.rt, self.path) {
+            Ok(next) => next,
+            Err(fault) => return Err(of_file(fault)),
+        };
+        let here = self.metadata()?;
+        let there = next.metadata()?;
+        if here.dev() == there.dev() && here.ino() == there.ino() {
+            return Ok(None);
+        }
+        if next.header.name != self.header.name {
+            return Err(of_file(FileFault::AnotherLog));
+        }
+        Ok(Some(next))
+    }
+}
+
+impl<'a, F: Files<File = File> + AllocGlobal> Source for LogFile<'a, F> {
+    fn at(&self) -> u64 {
+        self.at
+    }
+
+    fn look<P: Shows, W: Write>(
         &mut self,
         alloc: Global,
         shown: &mut P,
@@ -116,19 +163,27 @@ impl LogFile {
         show_rest(alloc, &mut self.file, shown, &mut self.at, output)
     }
 
-    /// The services after the entries that are written.
-    pub fn services(&mut self, alloc: Global) -> Result<StoredWorld, Stop> {
+    fn services(&mut self, alloc: Global) -> Result<StoredWorld, Stop> {
         self.seek()?;
         let counter = self.header.counter;
         services_after(alloc, counter, &mut self.file, &mut self.at)
     }
 
-    /// The services after the snapshot with which the log begins.
     fn services_of_snapshot(&mut self, alloc: Global) -> Result<StoredWorld, Stop> {
         self.seek()?;
         let counter = self.header.counter;
         let mut snapshot = (&mut self.file).take(self.header.snapshot_length);
         services_after(alloc, counter, &mut snapshot, &mut self.at)
+    }
+
+    fn go_on(&mut self) -> Result<bool, Stop> {
+        match self.next_file()? {
+            None => Ok(false),
+            Some(next) => {
+                *self = next;
+                Ok(true)
+            }
+        }
     }
 }
 
@@ -148,24 +203,24 @@ fn services_after<R: Read>(
     }
 }
 
-/// What shows a log's entries, also where the log goes on in another file.
+/// What shows a log's entries, also where the log goes on in another place.
 pub trait Follows: Shows {
-    /// Goes on in the file that comes next, by the mark at the end of the one before.
-    fn enter<W: Write>(
+    /// Goes on in the place that comes next, by the mark at the end of the one before.
+    fn enter<S: Source, W: Write>(
         &mut self,
         alloc: Global,
         mark: &Entry,
-        next: &mut LogFile,
+        next: &mut S,
         output: &mut W,
     ) -> Result<(), Stop>;
 }
 
 impl Follows for Lines {
-    fn enter<W: Write>(
+    fn enter<S: Source, W: Write>(
         &mut self,
         alloc: Global,
         mark: &Entry,
-        _next: &mut LogFile,
+        _next: &mut S,
         output: &mut W,
     ) -> Result<(), Stop> {
         let mut text = String::new(alloc);
@@ -177,11 +232,11 @@ impl Follows for Lines {
 }
 
 impl Follows for Changes {
-    fn enter<W: Write>(
+    fn enter<S: Source, W: Write>(
         &mut self,
         alloc: Global,
         _mark: &Entry,
-        next: &mut LogFile,
+        next: &mut S,
         _output: &mut W,
     ) -> Result<(), Stop> {
         self.world = next.services_of_snapshot(alloc)?;
@@ -189,46 +244,22 @@ impl Follows for Changes {
     }
 }
 
-/// The log's file that has the path now, unless that is this one.
-fn next_file<F: Files<File = File> + AllocGlobal>(
-    rt: &F,
-    path: &str,
-    from: &LogFile,
-) -> Result<Option<LogFile>, Stop> {
-    let next = match LogFile::open(rt, path) {
-        Ok(next) => next,
-        Err(fault) => return Err(Stop::Refused(fault)),
-    };
-    let here = from.metadata()?;
-    let there = next.metadata()?;
-    if here.dev() == there.dev() && here.ino() == there.ino() {
-        return Ok(None);
-    }
-    if next.header.name != from.header.name {
-        return Err(Stop::Refused(FileFault::AnotherLog));
-    }
-    Ok(Some(next))
-}
-
-/// Shows what is written. True where the log goes on in another file, which is there to be shown.
-fn look_on<F: Files<File = File> + AllocGlobal, P: Follows, W: Write>(
-    rt: &F,
-    path: &str,
-    log: &mut LogFile,
+/// Shows what is written. True where the log goes on in another place, which is there to be shown.
+fn look_on<S: Source, P: Follows, W: Write>(
+    alloc: Global,
+    source: &mut S,
     shown: &mut P,
     output: &mut W,
 ) -> Result<bool, Stop> {
-    let alloc = rt.alloc();
-    match log.look(alloc, shown, output)? {
+    match source.look(alloc, shown, output)? {
         Rest::Ended => Ok(false),
-        Rest::Moved(mark) => match next_file(rt, path, log)? {
-            None => Ok(false),
-            Some(mut next) => {
-                shown.enter(alloc, &mark, &mut next, output)?;
-                *log = next;
-                Ok(true)
+        Rest::Moved(mark) => {
+            if !source.go_on()? {
+                return Ok(false);
             }
-        },
+            shown.enter(alloc, &mark, source, output)?;
+            Ok(true)
+        }
     }
 }
 
@@ -239,10 +270,9 @@ fn is_passing(stop: Stop, at: u64, damaged_at: Option<u64>) -> bool {
 }
 
 /// Shows a log's entries as they come, until a pause ends it. What is written before that is shown.
-pub fn follow<F: Files<File = File> + AllocGlobal, P: Follows, I: Pauses, W: Write>(
-    rt: &F,
-    path: &str,
-    log: &mut LogFile,
+pub fn follow<S: Source, P: Follows, I: Pauses, W: Write>(
+    alloc: Global,
+    source: &mut S,
     shown: &mut P,
     pauses: &mut I,
     output: &mut W,
@@ -250,14 +280,14 @@ pub fn follow<F: Files<File = File> + AllocGlobal, P: Follows, I: Pauses, W: Wri
     let mut goes_on = true;
     let mut damaged_at = None;
     for _ in 0..u64::MAX {
-        match look_on(rt, path, log, shown, output) {
+        match look_on(alloc, source, shown, output) {
             Ok(true) => continue,
             Ok(false) => damaged_at = None,
             Err(stop) => {
-                if !goes_on || !is_passing(stop, log.at, damaged_at) {
+                if !goes_on || !is_passing(stop, source.at(), damaged_at) {
                     return Err(stop);
                 }
-                damaged_at = Some(log.at);
+                damaged_at = Some(source.at());
             }
         }
         if !goes_on {

@@ -22,6 +22,7 @@ pub mod following;
 pub mod pauses;
 pub mod printing;
 mod reading;
+mod rows;
 pub mod showing;
 pub mod stopping;
 pub mod verdicts;

@@ -12,14 +12,15 @@ use iceoryx2_file_log::remainder::{Front, front_of};
 use negotiate_serve::ending::ServeError;
 use std::alloc::Global;
 use std::io::{ErrorKind, Read};
+use wulameron_place::trouble::Trouble;
 
 /// How many bytes are read at once.
 const PIECE_LENGTH: usize = 8192;
 
 /// The stop where a call was interrupted, or gave nothing new, 2^64 - 1 times.
-pub(crate) const TOO_OFTEN: Stop = Stop::Refused(FileFault::Failed {
+pub(crate) const TOO_OFTEN: Stop = Stop::Refused(Trouble::Refused(FileFault::Failed {
     kind: ErrorKind::Interrupted,
-});
+}));
 
 /// Asks the reader once for bytes, and returns how many it gave, or `None` where it was interrupted.
 fn read_once<R: Read>(reader: &mut R, piece: &mut [u8]) -> Result<Option<usize>, Stop>
@@ -31,7 +32,7 @@ fn read_once<R: Read>(reader: &mut R, piece: &mut [u8]) -> Result<Option<usize>,
         Ok(count) => Ok(Some(count)),
         Err(error) => match error.kind() {
             ErrorKind::Interrupted => Ok(None),
-            _ => Err(Stop::Refused(system_fault(&error))),
+            _ => Err(Stop::Refused(Trouble::Refused(system_fault(&error)))),
         },
     }
 }

@@ -3,9 +3,9 @@
 ghost use Rattle.std.specs.Prelude.{◌≡◌};
 ghost use Rattle.wulameron_trail.specs.Stopping.{stop_of};
 
-use iceoryx2_file_log::error::FileFault;
 use negotiate_serve::ending::ServeError;
 use std::alloc::AllocError;
+use wulameron_place::trouble::Trouble;
 
 /// Why no more of a log is shown.
 #[derive(Clone, Copy, Debug, PartialEq, Eq)]
@@ -14,8 +14,8 @@ pub enum Stop {
     Damaged,
     /// The entry isn't what the services before it answer.
     NotAnswered,
-    /// The log's file refused.
-    Refused(FileFault),
+    /// The log's file or database refused.
+    Refused(Trouble),
     /// The output failed, or there was no memory.
     Failed(ServeError),
 }
