@@ -10,6 +10,10 @@
 //! Of nodes (`nodes`), within one process: a node is claimed once, alive as long as its token stands and dead then; a
 //! look is in the way of a claim and of no look; the lowest free node is given; links, folders and foreign names are
 //! refused or passed over.
+//!
+//! Of logs and nodes in a database, whose replies a script tells (`postgres_logs`, `postgres_generations`,
+//! `postgres_nodes`): what is asked, byte for byte, and what each reply is answered by. A handle that is told something
+//! else than it asked for asks nothing any more.
 #![tactic(auto)]
 
 #[cfg(test)]
@@ -28,6 +32,12 @@ mod lost_paths;
 mod media;
 #[cfg(test)]
 mod nodes;
+#[cfg(test)]
+mod postgres_generations;
+#[cfg(test)]
+mod postgres_logs;
+#[cfg(test)]
+mod postgres_nodes;
 #[cfg(test)]
 mod samples;
 #[cfg(test)]
