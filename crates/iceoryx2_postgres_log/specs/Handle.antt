@@ -1,5 +1,5 @@
 -- What the calls of a handle leave of where it stands.
-use Rattle.std.specs.Prelude.{◌≡◌, ◌≢◌, ◌⊎◌, ℕ, ◌+◌, ◌*◌, ◌-◌, ◌^◌, min, Bool, true, false}
+use Rattle.std.specs.Prelude.{◌≡◌, ◌≢◌, ◌⊎◌, ◌≤◌, ℕ, ◌+◌, ◌*◌, ◌-◌, ◌^◌, min, Bool, true, false}
 use Rattle.std.specs.Prelude.{List, [], ◌∷◌, Option, Some, None}
 use Rattle.iceoryx2_log.specs.declared.entry.Entry.{Entry}
 use Rattle.iceoryx2_log.specs.declared.log.LogError.{LogError}
@@ -124,6 +124,16 @@ pub record Rejoined (name : List ℕ) (at start : Standing) (written wrote unrea
   pub opened : IsOpened (text.reopening name) start written between unread heard
   pub later : standing.is_later at start ≡ true
   pub look : IsLook start text.end between wrote heard left piece
+
+-- ---- a new session
+
+-- The server told where the log of this name begins: it is the same log, in the same generation or in a later one.
+pub record StandsAgain (name : List ℕ) (wait : ℕ) (at : Standing) (written wrote unread left : Option (List ℕ))
+    : Type 0 where
+  pub start : Standing
+  pub opened : IsOpened (text.opening name false wait) start written wrote unread left
+  pub same : start.log ≡ at.log
+  pub reached : at.generation ≤ start.generation
 
 -- ---- compaction
 

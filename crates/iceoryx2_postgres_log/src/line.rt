@@ -1,7 +1,8 @@
 //! A line of a reply, without its end.
 
-ghost use Rattle.std.specs.Prelude.{◌≡◌, ◌++◌, IfSome, IsTrue};
+ghost use Rattle.std.specs.Prelude.{◌≡◌, ◌++◌, IfOk, IfSome, IsTrue};
 
+use std::alloc::{AllocError, Global};
 use std::marker::Model;
 
 /// The bytes of a line, or of a part of one.
@@ -36,6 +37,14 @@ impl Line {
         ensures { result.now ≡ self.now }
     {
         &self.bytes
+    }
+
+    /// The same bytes once more. An `Err` is of memory.
+    pub fn copy(&self, alloc: Global) -> Result<Line, AllocError>
+        ensures { IfOk result (λ line. line ≡ self.now) }
+    {
+        let bytes = Vec::from_slice(alloc, &self.bytes)?;
+        Ok(Line::new(bytes))
     }
 }
 

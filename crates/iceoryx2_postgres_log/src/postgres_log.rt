@@ -23,6 +23,8 @@ ghost use Rattle.iceoryx2_postgres_log.specs.Handle as spec;
 ghost use Rattle.iceoryx2_postgres_log.specs.Handle.{IsErrorOf, ReadsOn, Appended, RefusesAppend, Rejoined};
 ghost use Rattle.iceoryx2_postgres_log.specs.Handle.{MayAppend};
 
+mod again;
+
 use crate::compacting::ask_compact;
 use crate::fault::{PostgresFault, log_error};
 use crate::first::{first_of, is_mark};
@@ -157,6 +159,13 @@ impl<R: BufRead, W: Write> PostgresLog<R, W> {
 }
 
 impl<R, W> PostgresLog<R, W> {
+    /// Where its questions are written.
+    pub fn questions(&self) -> &W
+        ensures { result.now ≡ self.now.questions }
+    {
+        &self.questions
+    }
+
     /// With which number the counter of services begins in the generation where the handle stands.
     pub fn counter(&self) -> u64
         ensures { result ≡ self.now.at.counter }

@@ -1,6 +1,7 @@
 //! Where a handle stands in a log, and how the server tells it.
 
-ghost use Rattle.std.specs.Prelude.{◌≡◌, ◌++◌, IfOk, codes, string_bytes};
+ghost use Rattle.std.specs.Prelude.{◌≡◌, ◌≢◌, ◌≤◌, ◌<◌, ◌⊎◌, ◌++◌, false};
+ghost use Rattle.std.specs.Prelude.{IfOk, IsTrue, codes, string_bytes};
 ghost use Rattle.iceoryx2_postgres_log.specs.Rows.{place_text};
 ghost use Rattle.iceoryx2_postgres_log.specs.Standing as spec;
 ghost use Rattle.iceoryx2_postgres_log.specs.Standing.{IsStart};
@@ -45,6 +46,21 @@ impl Drop for Standing {
 }
 
 impl Standing {
+    /// The same once more. An `Err` is of memory.
+    pub fn copy(&self, alloc: Global) -> Result<Standing, AllocError>
+        ensures { IfOk result (λ at. at ≡ self.now) }
+    {
+        let place = self.place.copy(alloc)?;
+        Ok(Standing {
+            log: self.log,
+            generation: self.generation,
+            counter: self.counter,
+            snapshot: self.snapshot,
+            number: self.number,
+            place,
+        })
+    }
+
     pub fn into_place(self) -> Line
         ensures { result ≡ self.place }
     {
@@ -151,4 +167,15 @@ pub fn is_later(at: &Standing, start: &Standing) -> bool
         return false;
     }
     at.generation < start.generation
+}
+
+/// Whether this is the start of the same log, in the same generation or in a later one.
+pub fn is_still(at: &Standing, start: &Standing) -> bool
+    ensures still { IsTrue result → (start.now.log ≡ at.now.log) × (at.now.generation ≤ start.now.generation) }
+    ensures other { result ≡ false → (start.now.log ≢ at.now.log) ⊎ (start.now.generation < at.now.generation) }
+{
+    if start.log != at.log {
+        return false;
+    }
+    at.generation <= start.generation
 }
