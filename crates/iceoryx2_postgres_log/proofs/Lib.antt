@@ -6,3 +6,4 @@ pub mod Rows
 pub mod Inserts
 pub mod Copies
 pub mod NodeRows
+mod Undone

@@ -1,13 +1,18 @@
 -- A compaction: the log goes on in its next generation, which begins with a snapshot.
-use Rattle.std.specs.Prelude.{◌≡◌, ℕ, ◌+◌, List, [], ◌∷◌, ◌++◌, Option, All, codes, length}
+use Rattle.std.specs.Prelude.{◌≡◌, ◌⊎◌, ℕ, ◌+◌, true}
+use Rattle.std.specs.Prelude.{List, [], ◌∷◌, ◌++◌, Option, Some, None, All, codes, length}
+use Rattle.std.specs.Io.KnownBytes.{Appends}
 use Rattle.iceoryx2_log.specs.declared.entry.Entry.{Entry}
 use Rattle.iceoryx2_log.specs.declared.entry.Deed.TheVariants.{Moved}
 use Rattle.iceoryx2_log.specs.Form.{IsForm}
+use Rattle.iceoryx2_postgres_log.specs.declared.fault.PostgresFault.{PostgresFault}
+use Rattle.iceoryx2_postgres_log.specs.declared.fault.PostgresFault.TheVariants as fault
 use Rattle.iceoryx2_postgres_log.specs.declared.row.Row.{Row}
 use Rattle.iceoryx2_postgres_log.specs.declared.row.TheConstants.{SUM_LENGTH}
 use Rattle.iceoryx2_postgres_log.specs.declared.standing.Standing.{Standing}
+use Rattle.iceoryx2_postgres_log.specs.Faults.{is_over_by}
 use Rattle.iceoryx2_postgres_log.specs.Questions as text
-use Rattle.iceoryx2_postgres_log.specs.Replies.{Asks}
+use Rattle.iceoryx2_postgres_log.specs.Replies.{Asks, Refuses}
 use Rattle.iceoryx2_postgres_log.specs.Rows.{AreRows, place_text}
 
 -- ---- the mark, and the next generation's row before its first entry
@@ -86,7 +91,15 @@ pub record Copies (at : Standing) (entries : List Entry) (written wrote unread l
   pub told : AreRows at.number lines rows
   pub takes : TakesCopies rows forms at new
 
--- The same for more of them, some at a time.
+-- The reply ends as it has to, and tells rows that hold just these forms, and it is behind them.
+pub record TakesTold (at : Standing) (lines : List (List ℕ)) (end : List ℕ) (forms : List (List ℕ)) (new : Standing)
+    : Type 0 where
+  pub ended : end ≡ text.copied
+  pub rows : List Row
+  pub told : AreRows at.number lines rows
+  pub takes : TakesCopies rows forms at new
+
+-- All of the entries were copied so, some at a time.
 pub data CopiesAll (at : Standing)
     : List Entry → (written wrote unread left : Option (List ℕ)) → Standing → Type 0 where
   none : {entries : List Entry} {written wrote unread left : Option (List ℕ)} {new : Standing} → entries ≡ []
@@ -128,3 +141,62 @@ pub record IsCompacted (at : Standing) (entries : List Entry) (written wrote unr
     number = length entries;
     place = last.place;
   }
+
+-- ---- what one leaves that fails
+
+-- Only rows were to be inserted, a mark's or copies, any number of times. None of it commits. Each had its reply,
+-- whatever that told.
+pub data AsksRows : (written wrote unread left : Option (List ℕ)) → Type 0 where
+  nothing : {written wrote unread left : Option (List ℕ)} → wrote ≡ written → left ≡ unread
+      → AsksRows written wrote unread left
+  mark : {written between wrote unread heard left : Option (List ℕ)} → AsksRows written between unread heard
+      → (log generation number later : ℕ) (form : List ℕ) (rows : List (List ℕ)) (end : List ℕ)
+      → Asks (text.moving log generation number later form) (codes "moved") rows end between wrote heard left
+      → AsksRows written wrote unread left
+  copies : {written between wrote unread heard left : Option (List ℕ)} → AsksRows written between unread heard
+      → (log generation number : ℕ) (forms rows : List (List ℕ)) (end : List ℕ)
+      → Asks (text.copying log generation number forms) (codes "copied") rows end between wrote heard left
+      → AsksRows written wrote unread left
+
+-- Why no more was asked: the session ended; or nothing was asked, or only that.
+abbrev pub EndsIn : (written wrote unread left : Option (List ℕ)) → PostgresFault → Type 0
+EndsIn written wrote unread left why =
+    (why ≡ fault.SessionEnded) ⊎ (((wrote ≡ written) × (left ≡ unread)) ⊎ AsksRows written wrote unread left)
+
+-- Nothing else was asked, and then all was undone by a rollback.
+pub record IsUndone (written wrote unread left : Option (List ℕ)) : Type 0 where
+  pub between : Option (List ℕ)
+  pub asks : AsksRows written between unread left
+  pub undoes : Appends between wrote text.undoing
+
+-- The server told that it refused to make a generation the current one. The handle is over by that.
+pub record IsRefusedGoing (log generation snapshot : ℕ) (written wrote unread left : Option (List ℕ))
+    (why : PostgresFault) : Type 0 where
+  pub rows : List (List ℕ)
+  pub end : List ℕ
+  pub asks : Asks (text.going_on log generation snapshot) (codes "went") rows end written wrote unread left
+  pub refuses : Refuses (codes "went") rows end why
+  pub over : is_over_by why ≡ true
+
+-- Nothing else was asked before that.
+pub record IsRefusedThen (log generation snapshot : ℕ) (written wrote unread left : Option (List ℕ))
+    (why : PostgresFault) : Type 0 where
+  pub between : Option (List ℕ)
+  pub heard : Option (List ℕ)
+  pub asks : AsksRows written between unread heard
+  pub refused : IsRefusedGoing log generation snapshot between wrote heard left why
+
+-- What a compaction leaves that failed: the session ended, or the commit was asked for and not told; or nothing is
+-- committed, since nothing was asked, or it was undone, or the server told that it refused.
+abbrev pub LeavesNothing : Standing → (snapshot : ℕ) → (written wrote unread left : Option (List ℕ)) → PostgresFault
+    → Type 0
+LeavesNothing at snapshot written wrote unread left why =
+    (why ≡ fault.SessionEnded) ⊎ ((why ≡ fault.Unsure) ⊎ (((wrote ≡ written) × (left ≡ unread))
+    ⊎ (IsUndone written wrote unread left
+    ⊎ IsRefusedThen at.log (at.generation + 1) snapshot written wrote unread left why)))
+
+-- The same for a handle, by why it refused.
+abbrev pub Leaves : Standing → (snapshot : ℕ) → (written wrote unread left : Option (List ℕ)) → Option PostgresFault
+    → Type 0
+Leaves at snapshot written wrote unread left None = ⊥
+Leaves at snapshot written wrote unread left (Some why) = LeavesNothing at snapshot written wrote unread left why

@@ -10,14 +10,16 @@ ghost use Rattle.iceoryx2_postgres_log.specs.declared.fault.PostgresFault.TheVar
 ghost use Rattle.iceoryx2_postgres_log.specs.Faults.{is_over_by, IsGrave};
 ghost use Rattle.iceoryx2_postgres_log.specs.Questions as text;
 ghost use Rattle.iceoryx2_postgres_log.specs.Compacting.{IsMark, AreForms, TellsMove, Moves, TakesCopies, Copies};
+ghost use Rattle.iceoryx2_postgres_log.specs.Compacting.{TakesTold};
 ghost use Rattle.iceoryx2_postgres_log.specs.Compacting.{CopiesAll, IsCopied, GoesOn, IsCompacted};
+ghost use Rattle.iceoryx2_postgres_log.specs.Compacting.{EndsIn, IsRefusedGoing, LeavesNothing};
 
 use crate::fault::PostgresFault;
 use crate::hearing::{form_of, of_append, of_reading};
 use crate::line::{Line, behind, is_same};
 use crate::piece::{PIECE, rows_behind};
 use crate::question::{copying, going_on, moving};
-use crate::reply::{ask, write_question};
+use crate::reply::{Reply, ask, write_question};
 use crate::row::{Row, SUM_LENGTH, place_front};
 use crate::standing::{Standing, first_place};
 use iceoryx2_description::description::ServiceHash;
@@ -80,6 +82,19 @@ fn start_place(alloc: Global, number: u64, rows: &[Line]) -> Result<Line, Postgr
     Ok(place)
 }
 
+/// The same, where the reply tells that it is done.
+fn told_place(alloc: Global, number: u64, reply: &Reply) -> Result<Line, PostgresFault>
+    ensures { IfOk result (λ place. (reply.now.end ≡ text.moved) × TellsMove number reply.now.rows.items place) }
+{
+    if !reply.ends(b"moved 00000") {
+        return Err(of_reading(reply.refusal(b"moved")));
+    }
+    match start_place(alloc, number, &reply.rows) {
+        Ok(place) => Ok(place),
+        Err(why) => Err(why),
+    }
+}
+
 /// Writes the mark behind the last entry, and begins the next generation, whose snapshot will have so many entries.
 fn ask_move<R: BufRead, W: Write>(
     alloc: Global,
@@ -88,7 +103,9 @@ fn ask_move<R: BufRead, W: Write>(
     questions: &mut W,
     replies: &mut R,
 ) -> Result<Standing, PostgresFault>
-    ensures { IfOk result (Moves at.now snapshot (W.contents questions.old) (W.contents questions.new)
+    ensures ok { IfOk result (Moves at.now snapshot (W.contents questions.old) (W.contents questions.new)
+        (R.remaining replies.old) (R.remaining replies.new)) }
+    ensures err { IfErr result (EndsIn (W.contents questions.old) (W.contents questions.new)
         (R.remaining replies.old) (R.remaining replies.new)) }
 {
     let Some(number) = at.number.checked_add(1) else {
@@ -99,19 +116,20 @@ fn ask_move<R: BufRead, W: Write>(
     };
     let form = mark_form(alloc)?;
     let question = moving(alloc, at.log, at.generation, number, later, &form)?;
-    let reply = ask(alloc, question.as_bytes(), b"moved", questions, replies)?;
-    if !reply.ends(b"moved 00000") {
-        return Err(of_reading(reply.refusal(b"moved")));
+    let Ok(reply) = ask(alloc, question.as_bytes(), b"moved", questions, replies) else {
+        return Err(PostgresFault::SessionEnded);
+    };
+    match told_place(alloc, number, &reply) {
+        Err(why) => Err(why),
+        Ok(place) => Ok(Standing {
+            log: at.log,
+            generation: later,
+            counter: 0,
+            snapshot,
+            number: 0,
+            place,
+        }),
     }
-    let place = start_place(alloc, number, &reply.rows)?;
-    Ok(Standing {
-        log: at.log,
-        generation: later,
-        counter: 0,
-        snapshot,
-        number: 0,
-        place,
-    })
 }
 
 // ---- the snapshot
@@ -149,6 +167,25 @@ fn take_copies(at: &mut Standing, rows: VecDeque<Row>, forms: &[Line]) -> bool
     rest.is_empty()
 }
 
+/// Goes behind the copies, where the reply tells just these forms.
+fn take_told(
+    alloc: Global,
+    at: &mut Standing,
+    reply: &Reply,
+    forms: &[Line],
+) -> Result<(), PostgresFault>
+    ensures { OnOk result (TakesTold at.old reply.now.rows.items reply.now.end forms.now at.new) }
+{
+    if !reply.ends(b"copied 00000") {
+        return Err(of_reading(reply.refusal(b"copied")));
+    }
+    let rows = rows_behind(alloc, at.number, &reply.rows)?;
+    if take_copies(at, rows, forms) {
+        return Ok(());
+    }
+    Err(PostgresFault::NotUnderstood)
+}
+
 /// Copies the entries behind the place, and goes behind them. An `Err` tells nothing of the place.
 fn ask_copy<R: BufRead, W: Write>(
     alloc: Global,
@@ -157,20 +194,20 @@ fn ask_copy<R: BufRead, W: Write>(
     questions: &mut W,
     replies: &mut R,
 ) -> Result<(), PostgresFault>
-    ensures { OnOk result (Copies at.old entries.now (W.contents questions.old) (W.contents questions.new)
+    ensures ok { OnOk result (Copies at.old entries.now (W.contents questions.old) (W.contents questions.new)
         (R.remaining replies.old) (R.remaining replies.new) at.new) }
+    ensures err { IfErr result (EndsIn (W.contents questions.old) (W.contents questions.new)
+        (R.remaining replies.old) (R.remaining replies.new)) }
 {
     let forms = forms_of(alloc, entries)?;
     let question = copying(alloc, at.log, at.generation, at.number, &forms)?;
-    let reply = ask(alloc, question.as_bytes(), b"copied", questions, replies)?;
-    if !reply.ends(b"copied 00000") {
-        return Err(of_reading(reply.refusal(b"copied")));
+    let Ok(reply) = ask(alloc, question.as_bytes(), b"copied", questions, replies) else {
+        return Err(PostgresFault::SessionEnded);
+    };
+    match take_told(alloc, at, &reply, &forms) {
+        Ok(()) => Ok(()),
+        Err(why) => Err(why),
     }
-    let rows = rows_behind(alloc, at.number, &reply.rows)?;
-    if take_copies(at, rows, &forms) {
-        return Ok(());
-    }
-    Err(PostgresFault::NotUnderstood)
 }
 
 /// Copies all of the entries, so many at a time as one question reads.
@@ -181,8 +218,10 @@ fn ask_copies<R: BufRead, W: Write>(
     questions: &mut W,
     replies: &mut R,
 ) -> Result<(), PostgresFault>
-    ensures { OnOk result (CopiesAll at.old entries.now (W.contents questions.old) (W.contents questions.new)
+    ensures ok { OnOk result (CopiesAll at.old entries.now (W.contents questions.old) (W.contents questions.new)
         (R.remaining replies.old) (R.remaining replies.new) at.new) }
+    ensures err { IfErr result (EndsIn (W.contents questions.old) (W.contents questions.new)
+        (R.remaining replies.old) (R.remaining replies.new)) }
 {
     let mut rest = entries;
     for _round in 0..u64::MAX {
@@ -190,7 +229,10 @@ fn ask_copies<R: BufRead, W: Write>(
             return Ok(());
         }
         let (some, others) = rest.split_at(rest.len().min(PIECE));
-        ask_copy(alloc, at, some, questions, replies)?;
+        match ask_copy(alloc, at, some, questions, replies) {
+            Ok(()) => {}
+            Err(why) => return Err(why),
+        }
         rest = others;
     }
     Err(PostgresFault::NotUnderstood)
@@ -217,12 +259,19 @@ fn copied<R: BufRead, W: Write>(
     questions: &mut W,
     replies: &mut R,
 ) -> Result<Standing, PostgresFault>
-    ensures { IfOk result (IsCopied at.now entries.now (W.contents questions.old) (W.contents questions.new)
+    ensures ok { IfOk result (IsCopied at.now entries.now (W.contents questions.old) (W.contents questions.new)
+        (R.remaining replies.old) (R.remaining replies.new)) }
+    ensures err { IfErr result (EndsIn (W.contents questions.old) (W.contents questions.new)
         (R.remaining replies.old) (R.remaining replies.new)) }
 {
-    let mut last = ask_move(alloc, at, entries.len() as u64, questions, replies)?;
-    ask_copies(alloc, &mut last, entries, questions, replies)?;
-    Ok(last)
+    let mut last = match ask_move(alloc, at, entries.len() as u64, questions, replies) {
+        Ok(start) => start,
+        Err(why) => return Err(why),
+    };
+    match ask_copies(alloc, &mut last, entries, questions, replies) {
+        Ok(()) => Ok(last),
+        Err(why) => Err(why),
+    }
 }
 
 /// Makes the generation the current one, with so many entries as its snapshot, and commits all of it. `OutOfMemory`
@@ -237,7 +286,12 @@ fn ask_go_on<R: BufRead, W: Write>(
 ) -> Result<(), PostgresFault>
     ensures ok { OnOk result (GoesOn log generation snapshot (W.contents questions.old) (W.contents questions.new)
         (R.remaining replies.old) (R.remaining replies.new)) }
+    ensures memory { result ≡ Err fault.OutOfMemory → (W.contents questions.new ≡ W.contents questions.old)
+        × (R.remaining replies.new ≡ R.remaining replies.old) }
     ensures over { IfErr result IsGrave }
+    ensures refused { IfErr result (λ why. (why ≡ fault.OutOfMemory) ⊎ ((why ≡ fault.Unsure)
+        ⊎ IsRefusedGoing log generation snapshot (W.contents questions.old) (W.contents questions.new)
+        (R.remaining replies.old) (R.remaining replies.new) why)) }
 {
     let Ok(question) = going_on(alloc, log, generation, snapshot) else {
         return Err(PostgresFault::OutOfMemory);
@@ -260,8 +314,10 @@ pub fn ask_compact<R: BufRead, W: Write>(
     questions: &mut W,
     replies: &mut R,
 ) -> Result<Standing, PostgresFault>
-    ensures { IfOk result (IsCompacted at.now entries.now (W.contents questions.old) (W.contents questions.new)
+    ensures ok { IfOk result (IsCompacted at.now entries.now (W.contents questions.old) (W.contents questions.new)
         (R.remaining replies.old) (R.remaining replies.new)) }
+    ensures err { IfErr result (LeavesNothing at.now (length entries.now) (W.contents questions.old)
+        (W.contents questions.new) (R.remaining replies.old) (R.remaining replies.new)) }
 {
     let count = entries.len() as u64;
     let Some(later) = at.generation.checked_add(1) else {

@@ -12,7 +12,9 @@
 //! none only where the number is the measured end's; `Moved` only at a mark, and `Damaged` only where the bytes are no
 //! entry's form. An `Err` leaves the number and the place. A handle that was told something else than it asked for asks
 //! nothing any more (`is_over`). `compact` is `Ok` only where the server told the mark's row, each copy with the form
-//! that was meant, in order, and that the next generation is the current one (`IsCompacted`).
+//! that was meant, in order, and that the next generation is the current one (`IsCompacted`). An `Err` of it leaves
+//! nothing committed (`LeavesNothing`): nothing was asked, or a rollback was written last, or the server told that it
+//! refused; else it is `Unsure`, or the session has ended. `again` goes on in a new session (`StandsAgain`).
 //!
 //! `nodes` asks for claims of nodes, and for the list of them: only exactly the rows that its definitions name are
 //! taken for an answer.

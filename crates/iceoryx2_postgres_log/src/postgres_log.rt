@@ -11,7 +11,7 @@ ghost use Rattle.iceoryx2_log.specs.declared.log.LogError.TheVariants as error;
 ghost use Rattle.iceoryx2_log.specs.Log.{is_shown};
 ghost use Rattle.iceoryx2_postgres_log.specs.declared.fault.PostgresFault.TheVariants as fault;
 ghost use Rattle.iceoryx2_postgres_log.specs.declared.postgres_log.Mode.TheVariants as way;
-ghost use Rattle.iceoryx2_postgres_log.specs.Compacting.{IsCompacted};
+ghost use Rattle.iceoryx2_postgres_log.specs.Compacting.{IsCompacted, Leaves};
 ghost use Rattle.iceoryx2_postgres_log.specs.Faults.{is_over_by, log_error_of, IsGrave};
 ghost use Rattle.iceoryx2_postgres_log.specs.First.{Shows, ShowsMark, IsDamaged};
 ghost use Rattle.iceoryx2_postgres_log.specs.Hearing.{IsOpened, IsHeld, IsBusy, IsFreed, IsLook};
@@ -713,8 +713,8 @@ impl<R: BufRead, W: Write> Log for PostgresLog<R, W> {
     }
 
     /// One transaction of the session: nobody sees anything of it unless it is committed. `Failed` with no fault where
-    /// the log isn't eight times as long as the snapshot. `Unsure` where the commit was asked for and not told. Another
-    /// attempt is put off by an `Err`.
+    /// the log isn't eight times as long as the snapshot. `Unsure` where the commit was asked for and not told. Where
+    /// the session hasn't ended, any other `Err` leaves nothing committed, and puts off another attempt.
     fn compact(&mut self, snapshot: &[Entry]) -> Result<(), LogError>
         ensures was { OnOk result (MayAppend self.old.fault self.old.mode self.old.ahead.items self.old.at.number
             self.old.until) }
@@ -735,6 +735,10 @@ impl<R: BufRead, W: Write> Log for PostgresLog<R, W> {
           fault = self.new.fault;
           tries_from = self.new.tries_from;
         }) }
+        ensures left { OnErr result (((self.new.questions ≡ self.old.questions) × (self.new.replies ≡ self.old.replies))
+            ⊎ Leaves self.old.at (length snapshot.now) (W.contents self.old.questions)
+            (W.contents self.new.questions) (R.remaining self.old.replies) (R.remaining self.new.replies)
+            self.new.fault) }
         ensures over { spec.is_over self.old.fault ≡ true → self.new ≡ self.old }
     {
         if let Some(why) = self.why_unready() {
