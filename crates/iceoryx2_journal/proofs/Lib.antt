@@ -19,3 +19,4 @@ pub mod Cleaned
 pub mod FindingOwed
 pub mod Lives
 pub mod Settled
+pub mod Resuming

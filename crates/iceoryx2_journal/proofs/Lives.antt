@@ -8,9 +8,9 @@ use Rattle.iceoryx2_journal.specs.declared.cleaning.CleanError.{CleanError}
 use Rattle.iceoryx2_journal.specs.declared.cleaning.CleanError.TheVariants as errors
 use Rattle.iceoryx2_journal.specs.declared.cleaning.Step.TheVariants as step
 use Rattle.iceoryx2_journal.specs.declared.cleaning.AdoptError.{AdoptError}
-use Rattle.iceoryx2_journal.specs.Journal.{JournalState, Begins}
+use Rattle.iceoryx2_journal.specs.Journal.{JournalState, Begins, Resumes}
 use Rattle.iceoryx2_journal.specs.Cleaning.{CleansBy, CleansNext, CleansAll, Cleans, Adopts}
-use Rattle.iceoryx2_journal.specs.Replay.{Lives, begun, refreshes, cleans, adopts}
+use Rattle.iceoryx2_journal.specs.Replay.{Lives, begun, refreshes, cleans, adopts, resumes}
 
 module _ {L : Type 0} (contents : L → Option Contents) where
   pub begins_lives : (old new : JournalState L) (has_begun : Bool) → Begins contents true has_begun old new → Lives contents old new
@@ -18,6 +18,9 @@ module _ {L : Type 0} (contents : L → Option Contents) where
 
   pub adopts_lives : (i : ℕ) (old new : JournalState L) (r : Result (Unit {0}) AdoptError) → Adopts contents i r old new → Lives contents old new
   adopts_lives i old new r a = adopts i r begun a
+
+  pub resumes_lives : (log : L) (old new : JournalState L) (has_begun : Bool) → contents log ≡ contents old.log → Resumes contents log has_begun old new → Lives contents old new
+  resumes_lives log old new has_begun same r = resumes log has_begun begun same r
 
   same_lives : (a b c : JournalState L) → Lives contents a b → c ≡ b → Lives contents a c
   same_lives a b c so_far same = subst (λ x. Lives contents a x) (sym same) so_far

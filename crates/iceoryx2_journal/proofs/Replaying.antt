@@ -19,9 +19,9 @@ use Rattle.iceoryx2_journal.specs.Snapshot.{IsSnapshot, StandsFor}
 use Rattle.iceoryx2_journal.specs.Taking.{Arrives, Comes, Reaches, Stops, unread, starved, own, disagrees, astray, ends}
 use Rattle.iceoryx2_journal.specs.Taking as taking
 use Rattle.iceoryx2_journal.specs.Logged.{ReadsAtMost, IsLoggedPart, unwritten, written, declined}
-use Rattle.iceoryx2_journal.specs.Journal.{JournalState, TakesAll, Fails, Begins, barred, stopped, IsJournalAccess, fails, acts}
+use Rattle.iceoryx2_journal.specs.Journal.{JournalState, TakesAll, Fails, Begins, Resumes, barred, stopped, IsJournalAccess, fails, acts}
 use Rattle.iceoryx2_journal.specs.Laws.{ReplaysTheLog, IsWhatTheLogComesTo}
-use Rattle.iceoryx2_journal.specs.Replay.{ComesTo, nothing, fetches, happens, spends, Moves, Settles, Goes, stays, settles, strays, AmountsTo, Replays, Lives, begun, accesses, refreshes, cleans, adopts, spans}
+use Rattle.iceoryx2_journal.specs.Replay.{ComesTo, nothing, fetches, happens, spends, Moves, Settles, Goes, stays, settles, strays, AmountsTo, Replays, Lives, begun, accesses, refreshes, cleans, adopts, spans, resumes}
 use Rattle.iceoryx2_journal.specs.Cleaning.{Adopts, CleansBy}
 use Rattle.iceoryx2_journal.specs.declared.cleaning.AdoptError.{AdoptError}
 use Rattle.iceoryx2_journal.specs.declared.cleaning.AdoptError.TheVariants as adopting
@@ -215,6 +215,18 @@ module _ {L : Type 0} {contents : L → Option Contents} where
   adopt_goes i (Err adopting.OutOfMemory) going t = taken_goes t
   adopt_goes i (Err adopting.Refused) going f = fails_goes going f
 
+  -- The new handle stands where the old one stood, and whose the entries are doesn't matter to what they come to.
+  resume_goes : {a b : JournalState L} (log : L) (has_begun : Bool) → b.is_over ≡ false → contents log ≡ contents a.log → Resumes contents log has_begun a b → (a.is_over ≡ false) × Replays contents a b
+  resume_goes {a} {b} log has_begun going same r =
+      let x : (a.is_over ≡ false) × Replays contents (record a { log = log; nodes = [] }) (record b { nodes = [] }) = begins_goes has_begun going r.takes in (
+        x.0,
+        record {
+          entries = (x.1).entries;
+          comes = (x.1).comes;
+          taken = subst (λ c. WhereKnown (Goes a.is_lost b.is_lost a.world (x.1).entries b.world) c (contents b.log)) same (x.1).taken;
+        },
+      )
+
   -- The world of a journal that is still going is what came of the entries since.
   lives_replays : {a b : JournalState L} → b.is_over ≡ false → Lives contents a b → (a.is_over ≡ false) × Replays contents a b
   lives_replays going begun = (going, replays_none nothing refl refl)
@@ -225,6 +237,7 @@ module _ {L : Type 0} {contents : L → Option Contents} where
   lives_replays going (spans so_far h) =
       let x = lives_replays (sym (ap (λ (s : JournalState L). s.is_over) h.same) ∙ going) so_far in
       (x.0, replays_both x.1 (replays_none (comes_same (ap (λ (s : JournalState L). s.world) h.same)) h.stays (ap (λ (s : JournalState L). s.is_lost) h.same)))
+  lives_replays going (resumes log has_begun so_far same h) = let y = resume_goes log has_begun going same h in let x = lives_replays y.0 so_far in (x.0, replays_both x.1 y.1)
 
   run_replays : {a b : JournalState L} {word : List Letter} → b.is_over ≡ false → Run (IsJournalAccess contents) a word b → (a.is_over ≡ false) × Replays contents a b
   run_replays going done = (going, replays_none nothing refl refl)

@@ -1,5 +1,5 @@
 -- What a process makes of a log that others share, and what each of its accesses does.
-use Rattle.std.specs.Prelude.{◌≡◌, ℕ, Bool, true, false, ◌&&◌, not, List, Option, refl}
+use Rattle.std.specs.Prelude.{◌≡◌, ℕ, Bool, true, false, ◌&&◌, not, List, [], Option, refl}
 use Rattle.std.specs.Coded.{Coded, code_by, coded×, coded_ℕ, coded_bool, coded_list}
 use Rattle.iceoryx2_access.specs.Letter.{Letter, acting_node}
 use Rattle.iceoryx2_access.specs.Letter as letter
@@ -55,6 +55,12 @@ module _ {L : Type 0} (contents : L → Option Contents) where
   abbrev pub Begins : (mine has_begun : Bool) → JournalState L → JournalState L → Type 0
   Begins mine true old new = (mine ≡ true) × TakesAll old new
   Begins mine false old new = Fails mine old new
+
+  -- It goes on over this handle of its log. More is taken over as by one without nodes of its own, so in whoever's name
+  -- it is, and the own nodes stay.
+  pub record Resumes (log : L) (has_begun : Bool) (old new : JournalState L) : Type 0 where
+    pub takes : Begins true has_begun (record old { log = log; nodes = [] }) (record new { nodes = [] })
+    pub nodes : new.nodes ≡ old.nodes
 
   -- An access: it is its general fault where there was no own part. Else all that others appended was taken over,
   -- and then the own part was made, or refused.

@@ -14,7 +14,7 @@ use Rattle.iceoryx2_log.specs.declared.entry.Entry.{Entry}
 use Rattle.iceoryx2_log.specs.Log.{Contents, WhereKnown}
 use Rattle.iceoryx2_journal.specs.Follow.{IsEntryOf}
 use Rattle.iceoryx2_journal.specs.Snapshot.{StandsFor}
-use Rattle.iceoryx2_journal.specs.Journal.{JournalState, Begins, IsJournalAccess, Spans}
+use Rattle.iceoryx2_journal.specs.Journal.{JournalState, Begins, Resumes, IsJournalAccess, Spans}
 use Rattle.iceoryx2_journal.specs.Cleaning.{Adopts, CleansBy}
 use Rattle.iceoryx2_journal.specs.declared.cleaning.AdoptError.{AdoptError}
 
@@ -80,8 +80,9 @@ pub data Keeps (was is : Bool) (old new : Contents) : Type 0 where
   anew : is ≡ false → BeginsAnew new → Keeps was is old new
   strays : is ≡ true → Keeps was is old new
 
--- What becomes of a journal: its accesses, what it takes over besides, what it gives back for nodes that are dead, nodes
--- that become own ones, and calls that begin and end, in any order.
+-- What becomes of a journal: its accesses, what it takes over besides, what it gives back for nodes that are dead,
+-- nodes that become own ones, calls that begin and end, and going on over another handle that stands at the same place,
+-- in any order.
 pub data Lives {L : Type 0} (contents : L → Option Contents) : JournalState L → JournalState L → Type 0 where
   begun : {a : JournalState L} → Lives contents a a
   accesses : {a b c : JournalState L} (l : Letter) → Lives contents a b → IsJournalAccess contents b l c
@@ -93,6 +94,8 @@ pub data Lives {L : Type 0} (contents : L → Option Contents) : JournalState L 
   adopts : {a b c : JournalState L} (i : ℕ) (r : Result (Unit {0}) AdoptError) → Lives contents a b
       → Adopts contents i r b c → Lives contents a c
   spans : {a b c : JournalState L} → Lives contents a b → Spans contents b c → Lives contents a c
+  resumes : {a b c : JournalState L} (log : L) (has_begun : Bool) → Lives contents a b
+      → contents log ≡ contents b.log → Resumes contents log has_begun b c → Lives contents a c
 
 -- It began in an empty world over a log of which it had taken nothing, and isn't over or lost. Its log is known, and
 -- these are the entries that it has taken over or appended in the place where it is, or that the snapshot there has.

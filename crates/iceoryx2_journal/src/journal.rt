@@ -9,6 +9,7 @@ ghost use Rattle.iceoryx2_journal.specs.Journal.{Begins, KeepsHold, Spans};
 
 mod accesses;
 mod cleaning;
+mod resuming;
 
 use crate::pen::Pen;
 use crate::snapshot::compact;
@@ -143,17 +144,26 @@ impl<L: Log> Journal<L> {
         if !mine {
             return false;
         }
+        if !self.begin_reading() {
+            return false;
+        }
+        compact(*self.nodes.allocator(), &self.world, &mut self.pen.log);
+        true
+    }
+
+    // Holds the log and takes over what others appended. False where that isn't all, and then the log isn't held.
+    fn begin_reading(&mut self) -> bool
+        ensures begins { Begins L.contents true result self.old self.new }
+        ensures was_free { result ≡ true → L.held self.old.log ≡ false }
+        ensures hold { result ≡ false → KeepsHold L.held self.old self.new }
+    {
         if self.is_over {
             return false;
         }
         let Ok(_) = self.pen.log.hold() else {
             return false;
         };
-        if !self.take_in() {
-            return false;
-        }
-        compact(*self.nodes.allocator(), &self.world, &mut self.pen.log);
-        true
+        self.take_in()
     }
 
     // Takes over what others appended, of a log that is held or was looked at. False where that isn't all, and then the

@@ -12,8 +12,9 @@
 //! appended exactly where it is written down, or refused (`IsJournalAccess`), and leaves the log held exactly if it was
 //! held before (`KeepsHold`), as `catch_up`, `refresh`, `adopt` and `clean` do. `refresh` and `adopt` keep what own
 //! nodes rely on (`Adopts`). `clean` gives back what another node has (`Cleans`): at Ok it has nothing, else what
-//! was given back stays so. `settle` gives back what an own node has besides the factories with some tickets
-//! (`SettlesBy`): at Ok it owes nothing (`OwesNothing`), and those factories stand on.
+//! was given back stays so. `resume` goes on over another handle, and takes over entries in own names too (`Resumes`).
+//! `settle` gives back what an own node has besides the factories with some tickets (`SettlesBy`): at Ok it owes
+//! nothing (`OwesNothing`), and those factories stand on.
 //!
 //! `laws::journals()`: any run over any log is accesses of own nodes, of which any may be refused, after what
 //! others do; where entries are known the world is what they come to, in order (`AmountsTo`). `laws::processes()`, of
