@@ -14,3 +14,4 @@ pub mod Promised
 pub mod Held
 pub mod Settling
 pub mod Gathering
+pub mod Resumed

@@ -23,6 +23,7 @@ mod events;
 pub mod laws;
 mod publish_subscribe;
 mod request_response;
+pub mod resuming;
 pub mod session;
 mod setters;
 mod slots;

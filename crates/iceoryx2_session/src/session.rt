@@ -7,6 +7,7 @@ ghost use Rattle.iceoryx2_session.specs.Sessions.{ClosesSlotBy, OpensBy};
 ghost use Rattle.iceoryx2_session.specs.Slots.{FreeAt};
 ghost use Rattle.iceoryx2_commands.specs.Commands.{slot_count};
 
+use crate::resuming::Resuming;
 use crate::slots::Slots;
 use crate::table_storage::{ServiceOver, TableStorage};
 use crate::world_storage::WorldStorage;
@@ -21,6 +22,7 @@ use iceoryx2_rounds::port_factory::Registration;
 use iceoryx2_table::table::Table;
 use iceoryx2_types::types::CustomHeaderMarker;
 use std::alloc::AllocError;
+use std::mem;
 
 /// A storage that shows a world, and 64 slots for the factories that commands open over it. It has to be
 /// spent by `close_all`, or by `finish` where the storage shows a table.
@@ -446,6 +448,14 @@ impl<S: WorldStorage> Session<S> {
         }
     }
 
+    /// Lets go of what all slots hold without an access. They are free then, and their nodes keep their places.
+    fn abandon_all(&mut self)
+        ensures { own_state self.new ≡ record (own_state self.old) { slots = replicate slot_count None } }
+    {
+        let slots = mem::replace(&mut self.slots, Slots::new());
+        slots.destroy();
+    }
+
     /// Closes the factories of all slots, in ascending order, and gives the storage back. What it refused to release
     /// or to remove stays there.
     pub fn close_all(self) -> S
@@ -492,6 +502,53 @@ impl<S: WorldStorage> Session<S> {
         let mut storage = session.close_all();
         storage.end_call();
         storage
+    }
+}
+
+impl<S: Resuming> Session<S> {
+    ghost use Rattle.std.specs.Prelude.{IsTrue};
+    ghost use Rattle.iceoryx2_world.specs.Across.{Agrees};
+    ghost use Rattle.iceoryx2_session.specs.Resumed.{HaveTickets, ResumesSession};
+    ghost use Rattle.iceoryx2_session.specs.SessionStates.{own_nodes, own_state, world_state};
+    ghost use Rattle.iceoryx2_session.specs.StandingSlots.{SlotsStandInWorld};
+
+    /// Goes on after what the storage stands on was gone. Answers whether the factories of all slots stand still. Where
+    /// one doesn't, or not all could be shown, all slots are free then, and what is left of their factories is owed.
+    /// Whoever calls this knows that nobody else has their nodes.
+    pub fn resume(&mut self) -> bool
+        ensures resumes { ResumesSession S.settles result (own_state self.old) (own_state self.new) }
+
+        // Which nodes are own stays as it was.
+        ensures nodes { own_nodes S.own self.new ≡ own_nodes S.own self.old }
+
+        // The world agrees afterwards where it agreed,
+        ensures agrees { Agrees (world_state S.world self.old).table → Agrees (world_state S.world self.new).table }
+
+        // and there the factories of all slots stand, as far as there are any.
+        ensures stands { let own = own_nodes S.own self.old in
+            Agrees (world_state S.world self.old).table → SlotsStandInWorld own (world_state S.world self.old)
+            → SlotsStandInWorld own (world_state S.world self.new) }
+    {
+        let is_all = self.storage.resume();
+        if is_all && self.has_tickets() {
+            return true;
+        }
+        self.abandon_all();
+        false
+    }
+
+    /// Whether each factory of a slot has its ticket.
+    fn has_tickets(&self) -> bool
+        ensures { IsTrue result → HaveTickets (S.world (own_state self.now).table) (own_state self.now).slots }
+    {
+        for slot in 0..SLOTS {
+            if let Some(registration) = self.slots.get(slot) {
+                if !self.storage.has_ticket(registration) {
+                    return false;
+                }
+            }
+        }
+        true
     }
 }
 
