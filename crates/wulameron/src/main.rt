@@ -75,11 +75,11 @@ fn pipes_to(rt: &HostRuntime, place: Place<'_>) -> Result<Option<Pipes>, u8> {
     };
     match Pipes::open(rt, word) {
         Ok(pipes) => Ok(Some(pipes)),
-        Err(PipesError::NotTwo) => {
+        Err(PipesError::NotPipes) => {
             let _ = reports.tell(NO_LAUNCHER);
             Err(NOT_A_COMMAND)
         }
-        Err(PipesError::Refused) => {
+        Err(PipesError::Refused) | Err(PipesError::NoOthers) => {
             let _ = reports.tell(Trouble::Database(PostgresFault::SessionEnded));
             Err(FAULT)
         }

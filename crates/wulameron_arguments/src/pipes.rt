@@ -1,53 +1,176 @@
 //! The pipes to the client of a database.
 
+use std::alloc::Global;
+use std::cell::RefCell;
+use std::fmt;
 use std::fs::{File, OpenOptions};
-use std::io::Write;
+use std::io::{self, BufRead, BufReader, Read, Write};
 use std::rt::Files;
 
-/// The pipes to the client of a database: a session of it, as long as both are open.
+/// The pipes to one client: a session of the database, as long as both are open.
 #[derive(Debug, Drop)]
-pub struct Pipes {
+struct Ends {
     questions: File,
     replies: File,
+}
+
+/// Where the launcher is asked for the pipes to another client, and tells them.
+#[derive(Debug, Drop)]
+struct Again {
+    asked: File,
+    told: File,
+}
+
+/// The pipes to the client of a database. They are to one client after the other: whoever has a reference to them writes
+/// to the last one, and reads from it.
+#[derive(Drop)]
+pub struct Pipes {
+    ends: RefCell<Option<Ends>>,
+    again: Option<Again>,
+}
+
+impl fmt::Debug for Pipes {
+    fn fmt<W: fmt::Write>(&self, f: &mut fmt::Formatter<W>) -> fmt::Result {
+        write!(f, "Pipes")
+    }
 }
 
 /// Why there are no pipes.
 #[derive(Clone, Copy, Debug, PartialEq, Eq)]
 pub enum PipesError {
-    /// The word doesn't name two files, with a colon between them.
-    NotTwo,
+    /// The word names neither two files nor four, with colons between them.
+    NotPipes,
     /// One of them can't be opened, or the client doesn't read.
     Refused,
+    /// The launcher gives no others.
+    NoOthers,
+}
+
+fn to_write<F: Files<File = File>>(rt: &F, path: &str) -> Result<File, PipesError> {
+    match OpenOptions::new().write(true).open(rt, path) {
+        Ok(file) => Ok(file),
+        Err(_) => Err(PipesError::Refused),
+    }
+}
+
+fn to_read<F: Files<File = File>>(rt: &F, path: &str) -> Result<File, PipesError> {
+    match OpenOptions::new().read(true).open(rt, path) {
+        Ok(file) => Ok(file),
+        Err(_) => Err(PipesError::Refused),
+    }
+}
+
+/// A word of two paths, with a colon between them.
+fn two(word: &str) -> Result<(&str, &str), PipesError> {
+    match word.split_once(':') {
+        Some(paths) => Ok(paths),
+        None => Err(PipesError::NotPipes),
+    }
+}
+
+/// Opens the pipes of these paths, and tells the client to begin, by an empty line.
+fn ends_at<F: Files<File = File>>(
+    rt: &F,
+    questions: &str,
+    replies: &str,
+) -> Result<Ends, PipesError> {
+    let questions = to_write(rt, questions)?;
+    let replies = to_read(rt, replies)?;
+    match (&questions).write_all(b"\n") {
+        Ok(()) => Ok(Ends { questions, replies }),
+        Err(_) => Err(PipesError::Refused),
+    }
+}
+
+/// Opens the pipes to the launcher that a word names, `AGAIN:TOLD`.
+fn again_at<F: Files<File = File>>(rt: &F, word: &str) -> Result<Again, PipesError> {
+    let (asked, told) = two(word)?;
+    let asked = to_write(rt, asked)?;
+    let told = to_read(rt, told)?;
+    Ok(Again { asked, told })
+}
+
+impl Again {
+    /// Asks the launcher for the pipes to another client, and gives the word that names them.
+    fn ask(&self, alloc: Global) -> Result<String, PipesError> {
+        let Ok(()) = (&self.asked).write_all(b"\n") else {
+            return Err(PipesError::NoOthers);
+        };
+        let Ok(mut told) = BufReader::new(alloc, &self.told) else {
+            return Err(PipesError::NoOthers);
+        };
+        let mut line = String::new(alloc);
+        match told.read_line(&mut line) {
+            Ok(_) => Ok(line),
+            Err(_) => Err(PipesError::NoOthers),
+        }
+    }
 }
 
 impl Pipes {
-    /// Opens the pipes that a word names, `QUESTIONS:REPLIES`, and tells the client to begin, by an empty line.
+    /// Opens the pipes that a word names, `QUESTIONS:REPLIES`, and tells the client to begin. In a word of four,
+    /// `QUESTIONS:REPLIES:AGAIN:TOLD`, the others are to the launcher, which can start another client.
     ///
-    /// - `NotTwo`: the word has no colon.
+    /// - `NotPipes`: the word has no colon, or one of three.
     /// - `Refused`: a pipe can't be opened, or be written to.
     pub fn open<F: Files<File = File>>(rt: &F, word: &str) -> Result<Pipes, PipesError> {
-        let Some((questions, replies)) = word.split_once(':') else {
-            return Err(PipesError::NotTwo);
+        let (questions, rest) = two(word)?;
+        let (replies, again) = match rest.split_once(':') {
+            None => (rest, None),
+            Some((replies, word)) => (replies, Some(again_at(rt, word)?)),
         };
-        let Ok(questions) = OpenOptions::new().write(true).open(rt, questions) else {
-            return Err(PipesError::Refused);
+        let ends = ends_at(rt, questions, replies)?;
+        Ok(Pipes {
+            ends: RefCell::new(Some(ends)),
+            again,
+        })
+    }
+
+    /// Closes the pipes, and opens those to another client, which the launcher starts once the database can be reached.
+    ///
+    /// - `NoOthers`: the launcher gives none. Nothing can be asked any more.
+    /// - `Refused`: a pipe can't be opened, or be written to.
+    pub fn renew<F: Files<File = File> + AllocGlobal>(&self, rt: &F) -> Result<(), PipesError> {
+        let Some(again) = &self.again else {
+            return Err(PipesError::NoOthers);
         };
-        let Ok(replies) = OpenOptions::new().read(true).open(rt, replies) else {
-            return Err(PipesError::Refused);
-        };
-        match (&questions).write_all(b"\n") {
-            Ok(()) => Ok(Pipes { questions, replies }),
+        let _ = self.ends.try_replace(None);
+        let line = again.ask(rt.alloc())?;
+        let (questions, replies) = two(line.as_str().trim_end())?;
+        let ends = ends_at(rt, questions, replies)?;
+        match self.ends.try_replace(Some(ends)) {
+            Ok(_) => Ok(()),
             Err(_) => Err(PipesError::Refused),
         }
     }
+}
 
-    /// What is asked is written there.
-    pub fn questions(&self) -> &File {
-        &self.questions
+/// What a client says. Once the pipes are closed, nothing.
+impl Read for &Pipes {
+    fn read(&mut self, buf: &mut [u8]) -> io::Result<usize> {
+        let Ok(ends) = self.ends.try_borrow() else {
+            return Ok(0);
+        };
+        match &*ends {
+            Some(ends) => (&ends.replies).read(buf),
+            None => Ok(0),
+        }
+    }
+}
+
+/// What a client is asked. Once the pipes are closed, nothing is.
+impl Write for &Pipes {
+    fn write(&mut self, buf: &[u8]) -> io::Result<usize> {
+        let Ok(ends) = self.ends.try_borrow() else {
+            return Ok(0);
+        };
+        match &*ends {
+            Some(ends) => (&ends.questions).write(buf),
+            None => Ok(0),
+        }
     }
 
-    /// What is told is read there.
-    pub fn replies(&self) -> &File {
-        &self.replies
+    fn flush(&mut self) -> io::Result<()> {
+        Ok(())
     }
 }
