@@ -159,6 +159,13 @@ impl<R: BufRead, W: Write> PostgresLog<R, W> {
 }
 
 impl<R, W> PostgresLog<R, W> {
+    /// What its memory comes from.
+    pub fn alloc(&self) -> Global
+        ensures { result ≡ self.now.alloc }
+    {
+        self.alloc
+    }
+
     /// Where its questions are written.
     pub fn questions(&self) -> &W
         ensures { result.now ≡ self.now.questions }

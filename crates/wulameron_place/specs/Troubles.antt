@@ -1,6 +1,6 @@
 -- What goes wrong at a log, and what is written of it.
 use Rattle.std.specs.Prelude.{◌≡◌, ℕ, Bool, true, false, List, ◌++◌, Option, Some, None, Result, Err}
-use Rattle.std.specs.Prelude.{option_map, codes}
+use Rattle.std.specs.Prelude.{codes}
 use Rattle.std.specs.declared.io.ErrorKind.{ErrorKind}
 use Rattle.std.specs.declared.io.ErrorKind.TheVariants as system
 use Rattle.iceoryx2_file_log.specs.declared.error.FileFault.{FileFault}
@@ -44,8 +44,8 @@ database_concern_of (Some database.Moved) = None
 database_concern_of (Some database.NothingSaved) = None
 database_concern_of (Some fault) = Some (trouble.Database fault)
 
--- a log that is over, is damaged, has lost its path or its session, or may have an entry that nobody knows of isn't
--- used any more
+-- a log that is over, is damaged, has lost its path or its session, may have an entry that nobody knows of, or has lost
+-- what was held isn't used any more
 abbrev pub is_last : Trouble → Bool
 is_last trouble.Over = true
 is_last (trouble.Refused (file.Damaged at)) = true
@@ -54,6 +54,22 @@ is_last (trouble.Refused file.Removed) = true
 is_last (trouble.Refused other) = false
 is_last (trouble.Database (database.Damaged number)) = true
 is_last (trouble.Database other) = is_over_by other
+is_last trouble.Gone = true
+
+-- a log in a database may go on in another session where this one ended, or tells what nobody asked for
+abbrev pub is_cut : Trouble → Bool
+is_cut (trouble.Database database.SessionEnded) = true
+is_cut (trouble.Database database.Unsure) = true
+is_cut (trouble.Database database.NotUnderstood) = true
+is_cut (trouble.Database database.ReadOnly) = true
+is_cut (trouble.Database (database.Refused state)) = true
+is_cut other = false
+
+-- what goes wrong, and else whether what was held is gone
+abbrev pub or_gone : (is_gone : Bool) → Option Trouble → Option Trouble
+or_gone true None = Some trouble.Gone
+or_gone false None = None
+or_gone is_gone (Some t) = Some t
 
 -- the trouble, where it is the last one
 abbrev pub only_last : Trouble → Bool → Option Trouble
@@ -124,6 +140,8 @@ abbrev pub trouble_text : Trouble → Option (List ℕ)
 trouble_text trouble.Over = Some (codes "has an entry that this program can't follow; start it with a node of its own")
 trouble_text (trouble.Refused f) = Some (fault_text f ++ codes "; " ++ advice_of f)
 trouble_text (trouble.Database f) = Some (database_text f ++ codes "; " ++ database_advice_of f)
+trouble_text trouble.Gone =
+    Some (codes "the session had ended, and what this node held is gone; start the program again")
 
 -- what is written of why a log isn't opened, behind its path
 abbrev pub unopened_text : Trouble → Option (List ℕ)

@@ -19,6 +19,7 @@ use std::random::RandomSource;
 use std::rt::Files;
 use std::time::{Clock, Duration};
 use wulameron_arguments::asked::{Database, Place};
+use wulameron_arguments::pipes::Pipes;
 
 /// The claim of a node: no other process has one as long as it stands.
 #[derive(Drop)]
@@ -134,7 +135,7 @@ fn claim_of_session(
     ensures named { IfOk result (λ claimed. IfSome node (λ named. claimed ≡ named)) }
 {
     let wait = millis(patience);
-    let mut questions = database.pipes.questions();
+    let mut questions = database.pipes;
     let mut replies = replies_of(alloc, database)?;
     match node {
         Some(node) => {
@@ -169,8 +170,8 @@ pub(crate) fn millis(duration: Duration) -> u64 {
 fn replies_of<'a>(
     alloc: Global,
     database: Database<'a>,
-) -> Result<BufReader<&'a File>, PostgresFault> {
-    match BufReader::new(alloc, database.pipes.replies()) {
+) -> Result<BufReader<&'a Pipes>, PostgresFault> {
+    match BufReader::new(alloc, database.pipes) {
         Ok(replies) => Ok(replies),
         Err(_) => Err(PostgresFault::OutOfMemory),
     }
@@ -199,7 +200,7 @@ fn list_of_database(
     alloc: Global,
     database: Database<'_>,
 ) -> Result<Vec<NodeStatus>, PostgresFault> {
-    let mut questions = database.pipes.questions();
+    let mut questions = database.pipes;
     let mut replies = replies_of(alloc, database)?;
     let rows = nodes::list(alloc, database.log, &mut questions, &mut replies)?;
     let mut found = Vec::new(alloc);
@@ -268,7 +269,7 @@ pub(crate) fn dead_lock(
     database: Database<'_>,
     node: u64,
 ) -> Result<Claim, NodeFault> {
-    let mut questions = database.pipes.questions();
+    let mut questions = database.pipes;
     let mut replies = replies_of(alloc, database)?;
     if nodes::claim_dead(alloc, database.log, node, &mut questions, &mut replies)? {
         return Ok(Claim::Session { node });
@@ -276,9 +277,27 @@ pub(crate) fn dead_lock(
     Err(NodeFault::IsAlive { node })
 }
 
+/// For how long is tried to claim a node again, in milliseconds. The server notices before that a machine is gone on
+/// which its last session was.
+const AGAIN_MILLIS: u64 = 30_000;
+
+/// Claims a node of this program in a new session of the database.
+pub(crate) fn lock_again(
+    alloc: Global,
+    database: Database<'_>,
+    node: u64,
+) -> Result<u64, NodeFault> {
+    claim_of_session(
+        alloc,
+        database,
+        Some(node),
+        Duration::from_millis(AGAIN_MILLIS),
+    )
+}
+
 /// Gives the lock of a node back. What the session refuses ends it, and the lock with it.
 pub(crate) fn give_lock_back(alloc: Global, database: Database<'_>, node: u64) {
-    let mut questions = database.pipes.questions();
+    let mut questions = database.pipes;
     if let Ok(mut replies) = replies_of(alloc, database) {
         let _ = nodes::release(alloc, database.log, node, &mut questions, &mut replies);
     }

@@ -3,7 +3,9 @@
 ghost use Rattle.std.specs.Prelude.{◌≡◌};
 ghost use Rattle.wulameron_place.specs.Dead.{not_dead_of, unclaimed_by};
 
-use crate::claims::{Claim, NodeError, NodeFault, dead_lock, dead_token, give_lock_back, list};
+use crate::claims::{
+    Claim, NodeError, NodeFault, dead_lock, dead_token, give_lock_back, list, lock_again,
+};
 use iceoryx2_monitoring::error::MonitoringFault;
 use iceoryx2_monitoring::state::{NodeState, NodeStatus};
 use std::alloc::Global;
@@ -27,6 +29,10 @@ pub trait DeadNodes {
 
     /// Gives a claim back.
     fn give_back(&self, claim: Self::Claim);
+
+    /// Claims a node of this program once more, after the session with the database had ended, in another one. False
+    /// where there is none, or another process has the node.
+    fn reclaim(&self, node: u64) -> bool;
 }
 
 /// Why a node isn't claimed.
@@ -144,6 +150,16 @@ impl<'a, F: Files<File = File> + Clock + RandomSource + AllocGlobal> DeadNodes
             give_lock_back(self.rt.alloc(), database, claim.node());
         }
         drop(claim);
+    }
+
+    fn reclaim(&self, node: u64) -> bool {
+        let Some(database) = self.place.database() else {
+            return false;
+        };
+        if database.pipes.renew(self.rt).is_err() {
+            return false;
+        }
+        lock_again(self.rt.alloc(), database, node).is_ok()
     }
 }
 

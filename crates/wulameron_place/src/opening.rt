@@ -1,6 +1,7 @@
 //! Opening a log, and claiming a node at it. What can't be had is told.
 
-ghost use Rattle.std.specs.Prelude.{◌≡◌, IfSome};
+ghost use Rattle.std.specs.Prelude.{◌≡◌, IfOk, IfSome};
+ghost use Rattle.iceoryx2_postgres_log.specs.declared.postgres_log.Mode.TheVariants as way;
 ghost use Rattle.wulameron_place.specs.Dead.{named_node};
 
 use crate::claims::{Claim, claim_node, list, millis};
@@ -15,6 +16,7 @@ use iceoryx2_log::call_log::CallLog;
 use iceoryx2_monitoring::state::NodeStatus;
 use iceoryx2_postgres_log::fault::PostgresFault;
 use iceoryx2_postgres_log::postgres_log::PostgresLog;
+use iceoryx2_session::resuming::Renewing;
 use std::alloc::Global;
 use std::fs::File;
 use std::io::{BufReader, Write};
@@ -22,9 +24,36 @@ use std::random::RandomSource;
 use std::rt::Files;
 use std::time::Clock;
 use wulameron_arguments::asked::{Database, Place};
+use wulameron_arguments::pipes::Pipes;
 
 /// The log of a place.
-pub type LogAt<'a, F> = PlaceLog<FileLog<&'a F>, PostgresLog<BufReader<&'a File>, &'a File>>;
+pub type LogAt<'a, F> = PlaceLog<FileLog<&'a F>, PostgresLog<BufReader<&'a Pipes>, &'a Pipes>>;
+
+// A log in a database goes on in the session to which its pipes lead by now, and one in a file needn't.
+impl<'a, F: Files<File = File> + Clock + AllocGlobal> Renewing for LogAt<'a, F> {
+    fn renewed(&self) -> Option<LogAt<'a, F>> {
+        match self {
+            PlaceLog::File(_) => None,
+            PlaceLog::Database(log) => match renewed_handle(log) {
+                Ok(log) => Some(PlaceLog::Database(log)),
+                Err(_) => None,
+            },
+        }
+    }
+}
+
+/// A handle of a log in a database by which it goes on.
+fn renewed_handle<'a>(
+    log: &PostgresLog<BufReader<&'a Pipes>, &'a Pipes>,
+) -> Result<PostgresLog<BufReader<&'a Pipes>, &'a Pipes>, PostgresFault>
+    ensures { IfOk result (λ log. log.mode ≡ way.Free) }
+{
+    let pipes: &'a Pipes = *log.questions();
+    match BufReader::new(log.alloc(), pipes) {
+        Ok(replies) => log.again(pipes, replies),
+        Err(_) => Err(PostgresFault::OutOfMemory),
+    }
+}
 
 /// A log of which nothing is taken over yet, and the number with which the counter of its services begins.
 #[derive(Drop)]
@@ -122,11 +151,11 @@ fn opened_database<'a, F>(
     database: Database<'a>,
     makes: bool,
 ) -> Result<OpenLog<LogAt<'a, F>>, Trouble> {
-    let Ok(replies) = BufReader::new(alloc, database.pipes.replies()) else {
+    let Ok(replies) = BufReader::new(alloc, database.pipes) else {
         return Err(Trouble::Database(PostgresFault::OutOfMemory));
     };
     let wait = millis(place.options.patience);
-    let questions = database.pipes.questions();
+    let questions = database.pipes;
     match PostgresLog::open(alloc, database.log, wait, makes, questions, replies) {
         Ok(log) => {
             let counter = log.counter();

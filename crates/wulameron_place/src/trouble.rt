@@ -3,7 +3,8 @@
 ghost use Rattle.std.specs.Prelude.{◌≡◌, Option};
 ghost use Rattle.wulameron_place.specs.declared.trouble.Trouble as declared;
 ghost use Rattle.wulameron_place.specs.Troubles.{advice_of, database_advice_of, database_concern_of, file_concern_held_of};
-ghost use Rattle.wulameron_place.specs.Troubles.{file_concern_of, is_last, kind_advice_of, last_of, trouble_of};
+ghost use Rattle.wulameron_place.specs.Troubles.{file_concern_of, is_cut, is_last, kind_advice_of, last_of, or_gone};
+ghost use Rattle.wulameron_place.specs.Troubles.{trouble_of};
 
 use iceoryx2_file_log::cursor::State;
 use iceoryx2_file_log::error::FileFault;
@@ -30,6 +31,8 @@ pub enum Trouble {
     Refused(FileFault),
     /// The database that has the log refused.
     Database(PostgresFault),
+    /// The session with the database had ended, and others gave back meanwhile what this program's node had.
+    Gone,
 }
 
 impl Trouble {
@@ -49,6 +52,24 @@ impl Trouble {
                 PostgresFault::Damaged { number: _ } => true,
                 _ => fault.is_over(),
             },
+            Trouble::Gone => true,
+        }
+    }
+
+    /// Whether a log in a database may go on in another session.
+    pub fn is_cut(self) -> bool
+        ensures { result ≡ is_cut self }
+    {
+        match self {
+            Trouble::Database(fault) => match fault {
+                PostgresFault::SessionEnded => true,
+                PostgresFault::Unsure => true,
+                PostgresFault::NotUnderstood => true,
+                PostgresFault::ReadOnly => true,
+                PostgresFault::Refused { state: _ } => true,
+                _ => false,
+            },
+            _ => false,
         }
     }
 }
@@ -137,6 +158,10 @@ impl fmt::Display for Trouble {
             ),
             Trouble::Refused(fault) => write!(f, "{fault}; {}", advice(*fault)),
             Trouble::Database(fault) => write!(f, "{fault}; {}", database_advice(*fault)),
+            Trouble::Gone => write!(
+                f,
+                "the session had ended, and what this node held is gone; start the program again"
+            ),
         }
     }
 }
@@ -149,6 +174,21 @@ pub fn trouble_with(is_over: bool, refused: Option<Trouble>) -> Option<Trouble>
         return Some(Trouble::Over);
     }
     refused
+}
+
+/// What goes wrong where what was held may be gone, and else this does, or nothing.
+pub fn trouble_or_gone(is_gone: bool, trouble: Option<Trouble>) -> Option<Trouble>
+    ensures { result ≡ or_gone is_gone trouble }
+{
+    match trouble {
+        Some(trouble) => Some(trouble),
+        None => {
+            if is_gone {
+                return Some(Trouble::Gone);
+            }
+            None
+        }
+    }
 }
 
 /// What a user has to know of why a log in a file refused. That it goes on in another file, and that a compaction would
