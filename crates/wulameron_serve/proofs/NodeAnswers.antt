@@ -1,5 +1,5 @@
 -- What a command makes of the session of a node.
-use Rattle.std.proofs.Common.{◌≡◌, ℕ, ◌-◌, Bool, List, [], ◌++◌, Option, Result, Ok, Err, OnOk, if◌then◌else◌, append-nil, append_assoc, inl, inr, refl, sym, ap, subst, ◌∙◌}
+use Rattle.std.proofs.Common.{◌≡◌, ℕ, ◌-◌, Bool, true, false, List, [], ◌++◌, Option, Some, None, Result, Ok, Err, OnOk, if◌then◌else◌, append-nil, append_assoc, refl, sym, ap, subst, ◌∙◌}
 use Rattle.std.specs.Result.{is_ok}
 use Rattle.std.specs.declared.alloc.AllocError.{AllocError}
 use Rattle.iceoryx2_access.specs.Letter.{Letter}
@@ -11,6 +11,7 @@ use Rattle.iceoryx2_commands.specs.declared.command.Command.{Command}
 use Rattle.iceoryx2_commands.specs.declared.command.Command.TheVariants as command
 use Rattle.iceoryx2_commands.specs.declared.command.Reply.{Reply}
 use Rattle.iceoryx2_session.specs.CommandWords.{AppliesHeld, SpansSession, SpansTraced}
+use Rattle.iceoryx2_session.specs.Resumed.{ResumesSession}
 use Rattle.iceoryx2_session.proofs.Shown.{goes_shown}
 use Rattle.iceoryx2_testing.specs.Trace.{IsTracedAccess}
 use Rattle.explain_serve.specs.Traces.{TracedOver}
@@ -26,10 +27,11 @@ use Rattle.negotiate_serve.specs.Served.{GrowsByAnswer, ServesLines}
 use Rattle.negotiate_serve.specs.Transcripts.{Answering, AnsweringLines, LinesBy}
 use Rattle.negotiate_serve.proofs.Simulated.{lines_by_along, lines_transcript_along}
 use Rattle.wulameron_place.specs.declared.trouble.Trouble.{Trouble}
+use Rattle.wulameron_place.specs.Troubles.{or_gone}
 use Rattle.wulameron_serve.specs.declared.answerer.NodeAnswerer.{NodeAnswerer}
 use Rattle.wulameron_serve.specs.Lines.{AnswersWhileUsable, IsUsable}
 use Rattle.wulameron_serve.specs.Served.{AnswersLinesFor}
-use Rattle.wulameron_serve.specs.Shared.{StandsFor, AnswersFor, AnswersWith, BeginsAsAnswered, GivesBack, Replies, of_another, called, stays, again, closed, listed}
+use Rattle.wulameron_serve.specs.Shared.{StandsFor, AnswersFor, AnswersWith, BeginsAsAnswered, GivesBack, Replies, are_given, are_gone, none_owed, of_another, called, stays, again, closed, listed}
 use Rattle.wulameron_serve.specs.Views.{Writing, WritesExplained, WritesPlain}
 use Rattle.wulameron_serve.proofs.CallNodes.{caller_named}
 
@@ -58,6 +60,24 @@ module _ {S : Type 0} (world : S → World) (own : S → ℕ → Bool) (ready : 
       stands_after a b nodes kept.agrees
       (subst (λ slots. SlotsStandUnder (own a.table) (world b.table) slots) (sym (ap (λ (s : SessionOver S). s.slots) same)) (stand_kept kept before.stand))
       is_ready before
+
+-- ---- where the log's session had ended
+
+module _ {S : Type 0} (settles : S → S → Type 0) (old new : SessionOver S) where
+  -- what a session that goes on gives back
+  pub resumed_gives : (is : Bool) → ResumesSession settles is old new → GivesBack settles old new
+  resumed_gives true went = are_given none_owed went
+  resumed_gives false went = are_gone none_owed went
+
+  -- and what becomes of its storage
+  pub resumed_changes : (is : Bool) → ResumesSession settles is old new → settles old.table new.table
+  resumed_changes true went = went.changes
+  resumed_changes false went = went.changes
+
+-- What can be used where nothing is gone is usable.
+pub usable_unless_gone : (is_gone : Bool) (found : Option Trouble) → IsUsable (or_gone is_gone found) → IsUsable found
+usable_unless_gone is_gone None usable = refl
+usable_unless_gone is_gone (Some t) usable = usable
 
 -- of the node by another name
 pub renamed : {S : Type 0} (world : S → World) (own : S → ℕ → Bool) (ready : S → Type 0) {m n : ℕ} → m ≡ n → (s : SessionOver S) → StandsFor world own ready m s → StandsFor world own ready n s
@@ -130,7 +150,7 @@ module _ {S D : Type 0} (settles shows spans : S → S → Type 0) (step : S →
   AnswersIt = AnswersNode settles shows spans step world writes ending
 
   abbrev pub AnswersOf : WrongLines → AnsweringLines (NodeAnswerer S D)
-  AnswersOf w = AnswersWhileUsable (λ a. trouble (own_state a.session).table) (LinesBy w AnswersIt)
+  AnswersOf w = AnswersWhileUsable (λ a. or_gone a.is_gone (trouble (own_state a.session).table)) (LinesBy w AnswersIt)
 
   module _ (node : ℕ) where
     abbrev Shows : NodeAnswerer S D → SessionOver S → Type 0
@@ -149,7 +169,7 @@ module _ {S D : Type 0} (settles shows spans : S → S → Type 0) (step : S →
         → (t : SessionOver S) × AnswersLinesFor settles shows spans step world trouble writes ending node w s line text t × Shows b t
     usable_along w a b line text s by seen =
         let next = lines_by_along AnswersIt (AnswersNamed settles shows spans step world writes ending node) Shows along w a b line text s by.1 seen in
-        (next.0, (subst (λ (r : SessionOver S). IsUsable (trouble r.table)) seen.1 by.0, next.1), next.2)
+        (next.0, (subst (λ (r : SessionOver S). IsUsable (trouble r.table)) seen.1 (usable_unless_gone a.is_gone (trouble (own_state a.session).table) by.0), next.1), next.2)
 
     -- what is written of an input is written of the session alone
     pub serves_for : (w : WrongLines) (a : NodeAnswerer S D) (ended : Result Ending ServeError) (input unread : List ℕ) (old new : Option (List ℕ)) → a.node ≡ node
@@ -174,9 +194,10 @@ module _ {S : Type 0} (settles shows spans : S → S → Type 0) (step : S → L
   span_inside : (changes : S → S → Type 0) {old new : TracedOver S} → SpansSession (SpansTraced changes) old new → SpansSession changes (inside old) (inside new)
   span_inside changes s = record { same = ap inside s.same; changes = s.changes.1 }
 
-  given_inside : (old new : TracedOver S) → GivesBack (SpansTraced settles) old new → GivesBack settles (inside old) (inside new)
-  given_inside old new (inl same) = inl (ap inside same)
-  given_inside old new (inr gives) = inr (span_inside settles gives)
+  given_inside : {old new : TracedOver S} → GivesBack (SpansTraced settles) old new → GivesBack settles (inside old) (inside new)
+  given_inside none_owed = none_owed
+  given_inside (are_given before more) = are_given (given_inside before) (span_inside settles more)
+  given_inside (are_gone before empties) = are_gone (given_inside before) (record { same = ap inside empties.same; changes = empties.changes.1 })
 
   abbrev HeldTraced : TracedOver S → Command → Reply → TracedOver S → Type 0
   HeldTraced = AppliesHeld (SpansTraced spans) (IsTracedAccess step) (λ traced. world traced.inner)
@@ -236,12 +257,14 @@ module _ {S : Type 0} (settles shows spans : S → S → Type 0) (step : S → L
         explanation = begins.explanation ++ ending;
         are = x.are ∙ ap (λ (t : List ℕ). t ++ ending) begins.are ∙ append_assoc begins.output begins.explanation ending;
         answers = record {
-          settled = inside x.settled;
-          gives = given_inside old x.settled x.gives;
           shown = inside x.shown;
           looks = span_inside shows x.looks;
+          settled = inside x.settled;
+          gives = given_inside x.gives;
+          answered = inside x.answered;
           output = begins.output;
           answers = begins.answers;
           are = sym (append-nil begins.output);
+          goes_on = given_inside x.goes_on;
         };
       }

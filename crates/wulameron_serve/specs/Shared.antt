@@ -11,6 +11,7 @@ use Rattle.iceoryx2_commands.specs.declared.command.Reply.{Reply}
 use Rattle.iceoryx2_commands.specs.Commands.{slot_count}
 use Rattle.iceoryx2_session.specs.Sessions.{SessionOver, shown_session}
 use Rattle.iceoryx2_session.specs.CommandWords.{AppliesHeld, SpansSession}
+use Rattle.iceoryx2_session.specs.Resumed.{EmptiesSlots}
 use Rattle.iceoryx2_session.specs.StandingSlots.{SlotsStandInWorld}
 use Rattle.negotiate_lines.specs.declared.line.Line.TheVariants as parsed
 use Rattle.negotiate_lines.specs.Lines.{IsLine}
@@ -65,22 +66,34 @@ module _ {S : Type 0} (shows spans : S → S → Type 0) (step : S → Letter �
     listed : {text : List ℕ} {new : SessionOver S} (answer : Reply)
         → Replies spans step world writes line old command.List answer text new → AnswersFor old command.List text new
 
--- What the node owes of earlier commands is given back, or none of it may be owed.
-abbrev pub GivesBack : {S : Type 0} → (settles : S → S → Type 0) → SessionOver S → SessionOver S → Type 0
-GivesBack settles old new = (new ≡ old) ⊎ SpansSession settles old new
+-- What the node owes of earlier commands is given back, or none of it may be owed. Where the log's session had ended it
+-- goes on in another one before. Then the slots are emptied, where a factory of them isn't there any more.
+pub data GivesBack {S : Type 0} (settles : S → S → Type 0) (old : SessionOver S) : SessionOver S → Type 0 where
+  none_owed : GivesBack settles old old
+  are_given : {mid new : SessionOver S} → GivesBack settles old mid → SpansSession settles mid new
+      → GivesBack settles old new
+  are_gone : {mid new : SessionOver S} → GivesBack settles old mid → EmptiesSlots settles mid new
+      → GivesBack settles old new
+
+-- Where the slots don't hold any more what they held, it is known that something is gone.
+abbrev pub KnowsWhatIsGone : {S : Type 0} → SessionOver S → (is_gone : Bool) → SessionOver S → Type 0
+KnowsWhatIsGone old is_gone new = (new.slots ≡ old.slots) ⊎ (is_gone ≡ true)
 
 module _ {S : Type 0} (settles shows spans : S → S → Type 0) (step : S → Letter → S → Type 0) (world : S → World)
     (writes : Writing S) (node : ℕ) (line : List ℕ) where
-  -- A command is answered after that, and after what others did was shown, with this behind the answer.
+  -- A command is answered after what others did was shown, and after that, with this behind the answer. Where the log's
+  -- session ended meanwhile, it goes on in another one.
   pub record AnswersWith (ending : List ℕ) (old : SessionOver S) (c : Command) (text : List ℕ) (new : SessionOver S)
       : Type 0 where
-    pub settled : SessionOver S
-    pub gives : GivesBack settles old settled
     pub shown : SessionOver S
-    pub looks : SpansSession shows settled shown
+    pub looks : SpansSession shows old shown
+    pub settled : SessionOver S
+    pub gives : GivesBack settles shown settled
+    pub answered : SessionOver S
     pub output : List ℕ
-    pub answers : AnswersFor shows spans step world writes node line shown c output new
+    pub answers : AnswersFor shows spans step world writes node line settled c output answered
     pub are : text ≡ output ++ ending
+    pub goes_on : GivesBack settles answered new
 
 -- The text begins with what is written without explanations, over the storage inside.
 pub record BeginsAsAnswered {S : Type 0} (settles shows spans : S → S → Type 0) (step : S → Letter → S → Type 0)

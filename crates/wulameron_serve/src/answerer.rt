@@ -17,15 +17,17 @@ ghost use Rattle.negotiate_lines.specs.Lines.{IsLine};
 ghost use Rattle.negotiate_serve.specs.Replies.{GrowsBy};
 ghost use Rattle.negotiate_serve.specs.Transcripts.{slot_named};
 ghost use Rattle.wulameron_place.specs.Halts.{is_of_start};
+ghost use Rattle.wulameron_place.specs.Troubles.{or_gone};
 ghost use Rattle.wulameron_serve.specs.Lines.{IsUsable};
-ghost use Rattle.wulameron_serve.specs.Shared.{AnswersFor, AnswersWith, BeginsAsAnswered, GivesBack, Replies};
-ghost use Rattle.wulameron_serve.specs.Shared.{StandsFor, fresh_session, not_ours};
+ghost use Rattle.wulameron_serve.specs.Shared.{AnswersFor, AnswersWith, BeginsAsAnswered, GivesBack, KnowsWhatIsGone};
+ghost use Rattle.wulameron_serve.specs.Shared.{Replies, StandsFor, fresh_session, not_ours};
 ghost use Rattle.wulameron_serve.specs.Views.{WritesExplained};
 
 use crate::dead::{clean_dead, is_blocked};
 use crate::view::Viewed;
 use iceoryx2_commands::command::{Call, Command, Reply};
 use iceoryx2_description::config::Config;
+use iceoryx2_session::resuming::Resuming;
 use iceoryx2_session::session::Session;
 use iceoryx2_session::world_storage::WorldStorage;
 use negotiate_lines::line::{self, Line};
@@ -35,7 +37,7 @@ use std::io::Write;
 use wulameron_place::dead::DeadNodes;
 use wulameron_place::halt::Halt;
 use wulameron_place::reports::Reports;
-use wulameron_place::trouble::{Trouble, Troubled};
+use wulameron_place::trouble::{Trouble, Troubled, trouble_or_gone};
 
 /// Writes that a line names another node. `AllocError` where there is no memory for the text.
 fn refuse_node(node: u64, text: &mut String) -> Result<(), AllocError>
@@ -61,9 +63,11 @@ pub struct NodeAnswerer<S, D> {
     dead: D,
     /// Whether the log has refused something, so that a command may have left something that no slot holds.
     may_owe: bool,
+    /// Whether slots were emptied, since others gave back what the node had while the log's session was over.
+    is_gone: bool,
 }
 
-impl<S: Viewed + Troubled, D: DeadNodes + Drop> NodeAnswerer<S, D> {
+impl<S: Viewed + Resuming + Troubled, D: DeadNodes + Drop> NodeAnswerer<S, D> {
     /// A session over a storage of which the node is an own one. All its slots are free.
     pub fn new(node: u64, storage: S, dead: D) -> NodeAnswerer<S, D>
         ensures node { result.node ≡ node }
@@ -76,6 +80,7 @@ impl<S: Viewed + Troubled, D: DeadNodes + Drop> NodeAnswerer<S, D> {
             session: Session::over(Config::default(), storage),
             dead,
             may_owe: false,
+            is_gone: false,
         }
     }
 
@@ -90,6 +95,7 @@ impl<S: Viewed + Troubled, D: DeadNodes + Drop> NodeAnswerer<S, D> {
             session,
             dead,
             may_owe,
+            is_gone: false,
         }
     }
 
@@ -102,6 +108,7 @@ impl<S: Viewed + Troubled, D: DeadNodes + Drop> NodeAnswerer<S, D> {
             session,
             dead,
             may_owe: _,
+            is_gone: _,
         } = self;
         (session, dead)
     }
@@ -123,16 +130,47 @@ impl<S: Viewed + Troubled, D: DeadNodes + Drop> NodeAnswerer<S, D> {
         self.session.storage()
     }
 
-    /// Gives back what the node has besides the factories of the slots, where a command may have left something.
+    /// Gives back what the node has besides the factories of the slots, where a command may have left something. Where
+    /// the log's session has ended it goes on in another one before.
     fn settle(&mut self)
         ensures node { self.new.node ≡ self.old.node }
         ensures gives { GivesBack S.settles (own_state self.old.session) (own_state self.new.session) }
         ensures stands { StandsFor S.world S.own S.ready self.old.node (own_state self.old.session)
             → StandsFor S.world S.own S.ready self.old.node (own_state self.new.session) }
     {
+        self.go_on();
         if !self.may_owe {
             return;
         }
+        self.may_owe = self.session.settle(self.node).is_err();
+    }
+
+    /// Whether the log's session has ended.
+    fn is_cut(&self) -> bool {
+        match self.storage().trouble() {
+            Some(trouble) => trouble.is_cut(),
+            None => false,
+        }
+    }
+
+    /// Where the log's session has ended it goes on in another one: what was appended meanwhile is taken over, and what
+    /// the node has besides the factories of the slots is given back. Where these don't stand any more, the slots are
+    /// emptied before. Where no other session can be had nothing changes.
+    pub fn go_on(&mut self)
+        ensures node { self.new.node ≡ self.old.node }
+        ensures gives { GivesBack S.settles (own_state self.old.session) (own_state self.new.session) }
+        ensures stands { StandsFor S.world S.own S.ready self.old.node (own_state self.old.session)
+            → StandsFor S.world S.own S.ready self.old.node (own_state self.new.session) }
+        ensures gone { KnowsWhatIsGone (own_state self.old.session) self.new.is_gone (own_state self.new.session) }
+    {
+        if !self.is_cut() {
+            return;
+        }
+        if !self.dead.reclaim(self.node) {
+            return;
+        }
+        let stands = self.session.resume();
+        self.is_gone = self.is_gone || !stands;
         self.may_owe = self.session.settle(self.node).is_err();
     }
 
@@ -147,6 +185,7 @@ impl<S: Viewed + Troubled, D: DeadNodes + Drop> NodeAnswerer<S, D> {
             session,
             dead: _,
             may_owe: _,
+            is_gone: _,
         } = self;
         session.close_all_held()
     }
@@ -197,6 +236,19 @@ impl<S: Viewed + Troubled, D: DeadNodes + Drop> NodeAnswerer<S, D> {
     {
         let carried = self.carry_out(command);
         self.write(line, &carried, text)
+    }
+
+    /// The same, but not where the session had ended before: then no other one could be had.
+    fn go_on_unless(&mut self, was_cut: bool)
+        ensures node { self.new.node ≡ self.old.node }
+        ensures gives { GivesBack S.settles (own_state self.old.session) (own_state self.new.session) }
+        ensures stands { StandsFor S.world S.own S.ready self.old.node (own_state self.old.session)
+            → StandsFor S.world S.own S.ready self.old.node (own_state self.new.session) }
+    {
+        if was_cut {
+            return;
+        }
+        self.go_on();
     }
 
     /// Answers a call, unless it is in the name of another node. Where a dead node may be why it is refused, what dead
@@ -264,7 +316,7 @@ impl<S: Viewed + Troubled, D: DeadNodes + Drop> NodeAnswerer<S, D> {
     }
 }
 
-impl<S: Viewed + Troubled + Drop, D: DeadNodes + Drop> NodeAnswerer<S, D> {
+impl<S: Viewed + Resuming + Troubled + Drop, D: DeadNodes + Drop> NodeAnswerer<S, D> {
     /// A session over a storage of which the node is an own one, after what dead nodes have was given back. What goes
     /// wrong at the log is told.
     ///
@@ -281,7 +333,8 @@ impl<S: Viewed + Troubled + Drop, D: DeadNodes + Drop> NodeAnswerer<S, D> {
         ensures node { IfOk result (λ answerer. answerer.node ≡ node) }
         ensures shows { IfOk result (λ answerer. SpansSession S.shows (fresh_session storage) (own_state answerer.session)) }
         ensures stands { IfOk result (λ answerer. StandsFor S.world S.own S.ready node (own_state answerer.session)) }
-        ensures usable { IfOk result (λ answerer. IsUsable (S.trouble (own_state answerer.session).table)) }
+        ensures usable { IfOk result (λ answerer. IsUsable (or_gone answerer.is_gone
+            (S.trouble (own_state answerer.session).table))) }
         ensures err { IfErr result (λ halt. is_of_start halt ≡ true) }
     {
         let mut answerer = NodeAnswerer::new(node, storage, dead);
@@ -311,9 +364,9 @@ pub fn call_of(alloc: Global, line: &[u8], node: u64) -> Option<Call>
     }
 }
 
-/// What the node owes of earlier commands is given back first, and what others did is shown. A call in the name of
+/// What others did is shown first, and what the node owes of earlier commands is given back. A call in the name of
 /// another node changes nothing.
-impl<S: Viewed + Troubled, D: DeadNodes + Drop> Answerer for NodeAnswerer<S, D> {
+impl<S: Viewed + Resuming + Troubled, D: DeadNodes + Drop> Answerer for NodeAnswerer<S, D> {
     ghost answers = { λ old line c text new. (new.node ≡ old.node) × AnswersWith S.settles S.shows S.spans S.step S.world
         S.writes old.node line S.ending (own_state old.session) c text (own_state new.session) };
 
@@ -325,18 +378,20 @@ impl<S: Viewed + Troubled, D: DeadNodes + Drop> Answerer for NodeAnswerer<S, D> 
         command: Command,
         text: &mut String,
     ) -> Result<(), AllocError> {
-        self.settle();
         self.look();
+        self.settle();
+        let was_cut = self.is_cut();
         self.answer_alone(line, command, text)?;
+        self.go_on_unless(was_cut);
         text.push_str(S::ending())
     }
 }
 
-impl<S: Viewed + Troubled, D: DeadNodes + Drop> Troubled for NodeAnswerer<S, D> {
-    ghost trouble = { λ answerer. S.trouble (own_state answerer.session).table };
+impl<S: Viewed + Resuming + Troubled, D: DeadNodes + Drop> Troubled for NodeAnswerer<S, D> {
+    ghost trouble = { λ answerer. or_gone answerer.is_gone (S.trouble (own_state answerer.session).table) };
 
     fn trouble(&self) -> Option<Trouble> {
-        self.storage().trouble()
+        trouble_or_gone(self.is_gone, self.storage().trouble())
     }
 }
 

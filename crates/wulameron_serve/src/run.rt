@@ -2,6 +2,7 @@
 
 ghost use Rattle.std.specs.Prelude.{◌≡◌, ℕ, List, Some};
 ghost use Rattle.iceoryx2_session.specs.SessionStates.{own_state};
+ghost use Rattle.wulameron_place.specs.Troubles.{or_gone};
 ghost use Rattle.wulameron_serve.specs.Lines.{IsUsable, status_with, wrong_lines_of};
 ghost use Rattle.wulameron_serve.specs.Served.{EndsSettled, Serves, ServesLog};
 ghost use Rattle.wulameron_serve.specs.Shared.{StandsFor};
@@ -11,6 +12,7 @@ use crate::lines::serve_until;
 use crate::view::Viewed;
 use explain_serve::explainer::with_room;
 use iceoryx2_log::call_log::SpansCalls;
+use iceoryx2_session::resuming::{Renewing, Resuming};
 use iceoryx2_session::world_storage::WorldStorage;
 use negotiate_serve::ending::{Ending, FAULT, ServeError, WrongLines, status};
 use std::fs::File;
@@ -102,7 +104,7 @@ fn report_end<E: Write>(ended: Result<Ending, Halt>, reports: &mut Reports<'_, E
 /// Starts the node over its log, gives back what dead nodes have, answers each line of an input for it, closes all that
 /// is open then, whatever ended it, and gives back what the node still has. What goes wrong at the log is told.
 fn serve_log<
-    L: Refusing + SpansCalls + Drop,
+    L: Refusing + Renewing + SpansCalls + Drop,
     D: DeadNodes + Drop,
     R: Read + Drop,
     W: Write,
@@ -163,7 +165,13 @@ fn settle_end<S: WorldStorage + Troubled + Drop, E: Write>(
 }
 
 /// Answers each line of an input, and closes all that is open then, whatever ended it. Gives the storage back.
-pub fn serve<S: Viewed + Troubled, D: DeadNodes + Drop, R: Read + Drop, W: Write, E: Write>(
+pub fn serve<
+    S: Viewed + Resuming + Troubled,
+    D: DeadNodes + Drop,
+    R: Read + Drop,
+    W: Write,
+    E: Write,
+>(
     answerer: NodeAnswerer<S, D>,
     input: R,
     output: &mut W,
@@ -171,7 +179,7 @@ pub fn serve<S: Viewed + Troubled, D: DeadNodes + Drop, R: Read + Drop, W: Write
     wrong_lines: WrongLines,
 ) -> (Result<Ending, Halt>, S)
     requires stands { StandsFor S.world S.own S.ready answerer.node (own_state answerer.session) }
-    requires usable { IsUsable (S.trouble (own_state answerer.session).table) }
+    requires usable { IsUsable (or_gone answerer.is_gone (S.trouble (own_state answerer.session).table)) }
     ensures { (bytes : List ℕ) → R.remaining input ≡ Some bytes
         → Serves S.settles S.shows S.spans S.step S.world S.trouble S.writes S.ending answerer.node wrong_lines
         (own_state answerer.session) result.0 result.1 bytes (W.contents output.old) (W.contents output.new) }

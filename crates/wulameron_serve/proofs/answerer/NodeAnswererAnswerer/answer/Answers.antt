@@ -11,24 +11,27 @@ returns-clause-answered g c = λ before.
     let O = g.S.WorldStorage.own in
     let R = g.S.Viewed.ready in
     let line = c.args.line.now in
-    let settled = own_state c.settle.new.self.session in
     let shown = own_state c.look.new.self.session in
-    let new = own_state c.answer_alone.new.self.session in
-    let settled_stands = renamed W O R (sym c.settle.ensures.node) settled (c.settle.ensures.stands before) in
-    answers_ended (AnswersNode g.S.WorldStorage.settles g.S.WorldStorage.shows g.S.WorldStorage.spans g.S.Storage.step W g.S.Viewed.writes g.S.Viewed.ending) c.args.self.now c.answer_alone.new.self line c.args.command
-    (λ output. AnswersFor g.S.WorldStorage.shows g.S.WorldStorage.spans g.S.Storage.step W g.S.Viewed.writes c.look.new.self.node line shown c.args.command output new) g.S.Viewed.ending
+    let settled = own_state c.settle.new.self.session in
+    let answered = own_state c.answer_alone.new.self.session in
+    let shown_stands = renamed W O R (sym c.look.ensures.node) shown (c.look.ensures.stands before) in
+    let named = c.settle.ensures.node ∙ c.look.ensures.node in
+    answers_ended (AnswersNode g.S.WorldStorage.settles g.S.WorldStorage.shows g.S.WorldStorage.spans g.S.Storage.step W g.S.Viewed.writes g.S.Viewed.ending) c.args.self.now c.go_on_unless.new.self line c.args.command
+    (λ output. AnswersFor g.S.WorldStorage.shows g.S.WorldStorage.spans g.S.Storage.step W g.S.Viewed.writes c.settle.new.self.node line settled c.args.command output answered) g.S.Viewed.ending
     (λ output answers. (
-      c.answer_alone.ensures.node ∙ c.look.ensures.node ∙ c.settle.ensures.node,
+      c.go_on_unless.ensures.node ∙ c.answer_alone.ensures.node ∙ named,
       record {
-        settled = settled;
-        gives = c.settle.ensures.gives;
         shown = shown;
         looks = c.look.ensures.shows;
+        settled = settled;
+        gives = c.settle.ensures.gives;
+        answered = answered;
         output = output;
-        answers = subst (λ (n : ℕ). AnswersFor g.S.WorldStorage.shows g.S.WorldStorage.spans g.S.Storage.step W g.S.Viewed.writes n line shown c.args.command output new) (c.look.ensures.node ∙ c.settle.ensures.node) answers;
+        answers = subst (λ (n : ℕ). AnswersFor g.S.WorldStorage.shows g.S.WorldStorage.spans g.S.Storage.step W g.S.Viewed.writes n line settled c.args.command output answered) named answers;
         are = refl;
+        goes_on = c.go_on_unless.ensures.gives;
       },
     ))
     c.push_str.result (string_bytes c.args.text.now) (string_bytes c.answer_alone.new.text) (string_bytes c.push_str.new.self)
-    (c.in_ok-answer_alone.ensures.answered (renamed W O R (sym c.look.ensures.node) shown (c.look.ensures.stands settled_stands)))
+    (c.in_ok-answer_alone.ensures.answered (renamed W O R (sym c.settle.ensures.node) settled (c.settle.ensures.stands shown_stands)))
     (subst (λ (e : List ℕ). string_bytes c.push_str.new.self ≡ (if is_ok c.push_str.result then string_bytes c.answer_alone.new.text ++ e else string_bytes c.answer_alone.new.text)) c.ending.ensures c.push_str.ensures.bytes)
