@@ -6,7 +6,12 @@ ghost use Rattle.wulameron_hold.specs.Holding.{end_status};
 use crate::holding::{HoldError, call_line, hold_call, status_of_hold};
 use iceoryx2_commands::command::{Call, Refusal, Reply};
 use iceoryx2_description::config::Config;
+use iceoryx2_journal::journal::Journal;
+use iceoryx2_log::call_log::SpansCalls;
+use iceoryx2_monitoring::state::NodeStatus;
+use iceoryx2_session::resuming::{Renewing, Resuming};
 use iceoryx2_session::session::Session;
+use iceoryx2_session::world_storage::WorldStorage;
 use negotiate_explain::refusals::RefusalRow;
 use negotiate_lines::line::{Line, parse};
 use negotiate_lines::wrong::Wrong;
@@ -22,12 +27,13 @@ use std::random::RandomSource;
 use std::rt::Files;
 use std::time::Clock;
 use wulameron_arguments::asked::Hold;
-use wulameron_place::dead::PlaceNodes;
+use wulameron_place::dead::{DeadNodes, PlaceNodes};
 use wulameron_place::opening::{claim, open, states};
 use wulameron_place::reports::{Reports, STAYS};
-use wulameron_place::trouble::{Trouble, Troubled};
-use wulameron_serve::answerer::call_of;
+use wulameron_place::trouble::{Refusing, Trouble, Troubled};
+use wulameron_serve::answerer::{NodeAnswerer, call_of};
 use wulameron_serve::dead::clean_dead;
+use wulameron_serve::view::Viewed;
 use wulameron_view::viewing::report_look;
 
 const NOT_MADE: &str = "no call was made; start the program again";
@@ -132,16 +138,64 @@ fn hold_as<
     match log.for_node(node).start(alloc, reports) {
         Err(halt) => reports.halt(halt),
         Ok(journal) => {
-            let mut input = input;
-            let mut session = Session::over(Config::default(), journal);
-            let _ = clean_dead(alloc, &mut session, &PlaceNodes::of(rt, place));
-            let held = hold_call(alloc, &mut session, call, &states, &mut input, output);
-            let mut journal = session.close_all_held();
-            let is_settled = journal.settle(node, &[]).is_ok();
-            let _ = reports.look(&journal);
-            end_hold(journal.trouble(), held, is_settled, reports)
+            let wanted = NodeCall { node, call, states };
+            let dead = PlaceNodes::of(rt, place);
+            hold_over(journal, wanted, dead, input, output, reports)
         }
     }
+}
+
+/// A call for a node, and the states of all nodes before it.
+struct NodeCall {
+    node: u64,
+    call: Call,
+    states: Vec<NodeStatus>,
+}
+
+/// Makes the call over the journal of its node, and holds the factory until the input ends.
+fn hold_over<
+    L: Refusing + Renewing + SpansCalls + Drop,
+    D: DeadNodes + Drop,
+    R: Read + Drop,
+    W: Write,
+    E: Write,
+>(
+    journal: Journal<L>,
+    wanted: NodeCall,
+    dead: D,
+    input: R,
+    output: &mut W,
+    reports: &mut Reports<'_, E>,
+) -> u8 {
+    let NodeCall { node, call, states } = wanted;
+    let alloc = reports.alloc();
+    let mut input = input;
+    let mut session = Session::over(Config::default(), journal);
+    let _ = clean_dead(alloc, &mut session, &dead);
+    let held = hold_call(alloc, &mut session, call, &states, &mut input, output);
+    close_held(NodeAnswerer::over(node, session, dead), node, held, reports)
+}
+
+/// Closes what is held still, in another session of the database where the one before has ended, gives back what the
+/// node has besides, and gives the status.
+fn close_held<S: Viewed + Resuming + Troubled + Drop, D: DeadNodes + Drop, E: Write>(
+    answerer: NodeAnswerer<S, D>,
+    node: u64,
+    held: Result<(), HoldError>,
+    reports: &mut Reports<'_, E>,
+) -> u8 {
+    let mut answerer = answerer;
+    answerer.go_on();
+    let _ = reports.look(&answerer);
+    let is_gone = answerer.trouble() == Some(Trouble::Gone);
+    let mut storage = answerer.finish();
+    let is_settled = storage.settle(node, &[]).is_ok();
+    let _ = reports.look(&storage);
+    let status = end_hold(storage.trouble(), held, is_settled, reports);
+    if is_gone {
+        return FAULT;
+    }
+    status
 }
 
 /// Tells what kept a hold from its end, and that something of the node stays, and gives the status.

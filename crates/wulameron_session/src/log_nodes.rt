@@ -47,6 +47,11 @@ impl<'a, F: Files<File = File> + Clock + RandomSource + AllocGlobal> DeadNodes f
     fn give_back(&self, claim: Claim) {
         self.nodes.give_back(claim);
     }
+
+    // A library's calls end with their session.
+    fn reclaim(&self, _node: u64) -> bool {
+        false
+    }
 }
 
 impl<'a, F: Files<File = File> + Clock + RandomSource + AllocGlobal> SharedNodes

@@ -9,6 +9,7 @@ use crate::sending::send;
 use crate::texts::{BAD_LINE, done_text_frame, of_last_trouble, of_node_error, text_frame};
 use iceoryx2_commands::command::{Command, SLOTS};
 use iceoryx2_monitoring::state::{NodeState, NodeStatus};
+use iceoryx2_session::resuming::Resuming;
 use negotiate_lines::line::{self, Line};
 use negotiate_lines::wrong_text::wrong_text;
 use negotiate_serve::answerer::Answerer;
@@ -35,7 +36,7 @@ pub struct NodeSession<S, N> {
     statuses: Vec<NodeStatus>,
 }
 
-impl<S: Viewed + Troubled, N: SharedNodes + Drop> NodeSession<S, N> {
+impl<S: Viewed + Resuming + Troubled, N: SharedNodes + Drop> NodeSession<S, N> {
     /// A session over a storage of which the node is an own one. All its slots are free.
     pub fn new(alloc: Global, node: u64, storage: S, nodes: N) -> NodeSession<S, N> {
         NodeSession {

@@ -2,6 +2,7 @@
 
 use crate::log_nodes::SharedNodes;
 use crate::node_session::NodeSession;
+use iceoryx2_session::resuming::Resuming;
 use negotiate_serve::ending::ServeError;
 use negotiate_serve::output::write_out;
 use std::alloc::Global;
@@ -69,7 +70,7 @@ fn next_call<R: Read, W: Write>(
 }
 
 /// Answers each call of an input, in order, until it ends.
-pub fn serve<S: Viewed + Troubled, N: SharedNodes + Drop, R: Read, W: Write>(
+pub fn serve<S: Viewed + Resuming + Troubled, N: SharedNodes + Drop, R: Read, W: Write>(
     alloc: Global,
     session: NodeSession<S, N>,
     input: &mut R,

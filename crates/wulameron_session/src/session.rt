@@ -5,6 +5,7 @@ use crate::node_session::NodeSession;
 use crate::serving::{Stop, serve, write_frame};
 use crate::texts::{of_node_error, of_trouble};
 use iceoryx2_log::call_log::SpansCalls;
+use iceoryx2_session::resuming::{Renewing, Resuming};
 use negotiate_serve::ending::{DONE, FAULT};
 use std::alloc::Global;
 use std::fs::File;
@@ -78,13 +79,12 @@ fn session_as<F: Files<File = File> + Clock + RandomSource + AllocGlobal, R: Rea
 }
 
 /// Holds the session over a log that is open. Frames tell what goes wrong there, so that no line has to.
-fn serve_log<L: Refusing + SpansCalls + Drop, N: SharedNodes + Drop, R: Read + Drop, W: Write>(
-    alloc: Global,
-    node_log: NodeLog<L>,
-    nodes: N,
-    input: R,
-    output: &mut W,
-) -> u8 {
+fn serve_log<
+    L: Refusing + Renewing + SpansCalls + Drop,
+    N: SharedNodes + Drop,
+    R: Read + Drop,
+    W: Write,
+>(alloc: Global, node_log: NodeLog<L>, nodes: N, input: R, output: &mut W) -> u8 {
     let node = node_log.node;
     let mut no_lines = Reports::new(alloc, "", io::sink());
     match node_log.start(alloc, &mut no_lines) {
@@ -110,12 +110,12 @@ fn greeting(alloc: Global, node: u64) -> Frame {
 }
 
 /// Gives back what dead nodes have, greets, answers all calls, and closes what the slots hold.
-fn serve_all<S: Viewed + Troubled + Drop, N: SharedNodes + Drop, R: Read + Drop, W: Write>(
-    alloc: Global,
-    session: NodeSession<S, N>,
-    input: R,
-    output: &mut W,
-) -> u8 {
+fn serve_all<
+    S: Viewed + Resuming + Troubled + Drop,
+    N: SharedNodes + Drop,
+    R: Read + Drop,
+    W: Write,
+>(alloc: Global, session: NodeSession<S, N>, input: R, output: &mut W) -> u8 {
     let mut session = session;
     let mut input = input;
     session.clean_up(alloc);
