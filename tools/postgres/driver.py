@@ -97,8 +97,8 @@ class Client(Session):
 
 
 def of_pipes(paths):
-    """The session of `QUESTIONS:REPLIES`."""
-    questions, replies = paths.split(":")
+    """The session of `QUESTIONS:REPLIES`, and of what begins so."""
+    questions, replies = paths.split(":")[:2]
     session = Session(open(questions, "wb", buffering=0), open(replies, "rb"))
     session.say("\n")
     return session

@@ -22,6 +22,8 @@ PASSWORD = "each user of this machine sees a password in arguments; write it int
 # How a session begins without psql, and by what the server ends its answer.
 PROTOCOL, BEGIN, READY = 196608, b"user\0lamps\0database\0logs\0\0", b"Z\0\0\0\5I"
 AGAIN = "try again in a moment"
+# A pipe that the launcher names.
+PIPE = r"/proc/self/fd/\d+"
 # How soon a host's name is given up.
 SOON = {"RES_OPTIONS": "timeout:1 attempts:1"}
 # A program that tells with which words it is run, and what its session is.
@@ -29,7 +31,7 @@ TELLING = """#!/bin/sh
 echo "$@"
 [ "$1" = end ] && exit 7
 [ "$2" = --help ] && exit 0
-questions=${3%%:*} replies=${3##*:}
+questions=${3%%:*} rest=${3#*:} replies=${rest%%:*}
 exec 8>"$questions" 9<"$replies"
 echo >&8
 cat >&8 <<'END'
@@ -65,6 +67,9 @@ def words_refused(site):
                  "postgres://here/logs?sslmode=prefer&password=secret", "sslpassword=secret"):
         for words in (["-d", name], [f"-d{name}"], ["--dbname", name], [f"--dbname={name}"]):
             check_launched(site, f"a password in {words}", [*words, "list"], [PASSWORD], WRONG_ARGUMENTS)
+    for seconds in ("never", "-1", "1.5", "1 2", "100000"):
+        check_launched(site, f"to connect again for {seconds} seconds", ["list"], ["WULAMERON_RECONNECT"], WRONG_ARGUMENTS,
+                       WULAMERON_RECONNECT=seconds)
 
 
 def told_program(site, room):
@@ -79,7 +84,7 @@ def told_program(site, room):
             ["-h", "here", f"--port={server.port}", "--username=lamps", f"--dbname=host={server.folder} dbname={DATABASE}"]]
     for words in ways:
         ran = launched(site, *words, "list", "--at", "postgres:x", WULAMERON=str(program))
-        told = r"list --psql /proc/self/fd/\d+:/proc/self/fd/\d+ --at postgres:x"
+        told = rf"list --psql {':'.join([PIPE] * 4)} --at postgres:x"
         fine = ran.status == 0 and re.fullmatch(told, ran.out[0])
         checks.need(fine and ran.out[1:] == [f"{DATABASE}|lamps|wulameron", "done"], f"by {words}: {ran}")
     shutil.copy(site.words("x", "x")[0], room / "wulameron-postgres")

@@ -69,8 +69,9 @@ class Site:
         return self.program == PLAIN
 
     def environment(self, server=None, **others):
-        """That of the launcher."""
-        return (server or self.server).environment(**{"WULAMERON": str(self.program), **others})
+        """That of the launcher. Nothing connects again where nothing else is said."""
+        own = {"WULAMERON": str(self.program), "WULAMERON_RECONNECT": "0"}
+        return (server or self.server).environment(**own | others)
 
     def words(self, command, name, *words):
         """The words by which a command is run at a log. It waits long for it where nothing else is said."""
@@ -184,18 +185,27 @@ class Living:
         self.process.send_signal(how)
         return self.end()
 
+    def keeper(self):
+        """The process of the launcher's keeper; nothing where there is none."""
+        return child(self.pid, "bash")
+
     def psql(self):
-        """The process of its psql; nothing where there is none."""
-        for name in os.listdir("/proc"):
-            if name.isdigit():
-                try:
-                    stat = pathlib.Path(f"/proc/{name}/stat").read_text(encoding="utf-8", errors="replace")
-                except OSError:
-                    continue
-                program, _, rest = stat.partition("(")[2].rpartition(")")
-                if program == "psql" and rest.split()[1] == str(self.pid):
-                    return int(name)
-        return None
+        """The process of its psql, which the keeper has begun; nothing where there is none."""
+        keeper = self.keeper()
+        return child(keeper, "psql") if keeper else None
+
+
+def child(pid, wanted):
+    """The process that another one has begun, and that runs this program; nothing where there is none."""
+    for name in filter(str.isdigit, os.listdir("/proc")):
+        try:
+            stat = pathlib.Path(f"/proc/{name}/stat").read_text(encoding="utf-8", errors="replace")
+        except OSError:
+            continue
+        program, _, rest = stat.partition("(")[2].rpartition(")")
+        if program == wanted and rest.split()[1] == str(pid):
+            return int(name)
+    return None
 
 
 def check_over(checks, ran, name, what):
