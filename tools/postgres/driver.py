@@ -48,6 +48,9 @@ class Session:
             if not line.endswith(b"\n"):
                 raise Ended("; ".join(lines))
             lines.append(line.decode().rstrip("\n"))
+        # So psql says it whose server was ended at once.
+        if lines[-1] == f"{word} ":
+            raise Ended("; ".join(lines))
         return lines
 
     def ask(self, text, word):
@@ -102,6 +105,22 @@ def of_pipes(paths):
     session = Session(open(questions, "wb", buffering=0), open(replies, "rb"))
     session.say("\n")
     return session
+
+
+class Keeper:
+    """The launcher's keeper, by the two pipes behind those of the first session."""
+
+    def __init__(self, paths):
+        again, told = paths.split(":")[2:]
+        self.again, self.told = open(again, "wb", buffering=0), open(told, "rb")
+
+    def renewed(self):
+        """Another session, in place of one that has ended."""
+        self.again.write(b"\n")
+        paths = self.told.readline().decode().rstrip("\n")
+        if not paths:
+            raise Ended("there is no other session")
+        return of_pipes(paths)
 
 
 class Log:
