@@ -1,6 +1,7 @@
 """A replica takes over within a storm: a synchronous one has all that was answered; an asynchronous one lacks some, and a
 handle that had read further tells so and stops."""
 from postgres import texts
+from postgres.again import AGAIN, LONG
 from postgres.checks import until
 from postgres.driver import Client, Log, Other
 from postgres.ends import LEAST, LINES, Ended, check_rest
@@ -58,7 +59,14 @@ def synchronous(site, server, other):
     state = "select sync_state from pg_stat_replication"
     site.checks.need(until(lambda: server.told(state) == ["sync"], pause=PAUSE), "the replica isn't synchronous")
     readers(site, other)
+    environment = site.environment(other, WULAMERON_RECONNECT=LONG)
+    process = site.living_of(by_both(site, server, other, "both"), "both", 1, environment)
+    replies = [process.reply("event create 1 0 before")]
     processes = run_until_failover(site, name, server, lambda _: takes_over(site, server, other))
+    replies.append(process.reply("event create 1 1 after"))
+    ran = process.end()
+    fine = all(replies) and [one[:5] for one in replies] == ["ok 0 ", "ok 1 "] and ran.status == 0
+    site.checks.need(fine and ran.err == f"{AGAIN}\n", f"a process that goes on at a replica: {replies}, {ran}")
     if replayed(site.checks, other, processes, name, "a synchronous failover"):
         afterwards(site, name, processes, "a synchronous failover", server=other)
         check_rest(At(site, other), name, "after a synchronous failover", (1, 2))
@@ -82,11 +90,17 @@ def readers(site, other):
     site.checks.need(ran.status == 3 and "read" in ran.err, f"a node at a replica: {ran}")
 
 
+def by_both(site, server, other, name):
+    """The words of a process that names both servers."""
+    servers = f"host={server.folder},{other.folder} port={server.port},{other.port} target_session_attrs=read-write"
+    words = site.words("run", name, "--node", "1")
+    words[1:1] = ["-d", f"{servers} dbname=logs user=lamps"]
+    return words
+
+
 def both(site, server, other):
     """Who names both servers finds the one that may be written."""
-    name = f"host={server.folder},{other.folder} port={server.port},{other.port} target_session_attrs=read-write"
-    words = site.words("run", "synchronous", "--node", "1")
-    words[1:1] = ["-d", f"{name} dbname=logs user=lamps"]
+    words = by_both(site, server, other, "synchronous")
     ran = site.finished(words, ["event create 1 0 lamps"], site.environment(other))
     site.checks.need(ran.status == 0 and ran.out[:1] and ran.out[0].startswith("ok 0 "), f"by the names of both servers: {ran}")
 

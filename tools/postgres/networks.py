@@ -7,6 +7,7 @@ import signal
 import subprocess
 import time
 
+from postgres.again import AGAIN, LONG
 from postgres.checks import until
 from postgres.driver import Client
 from postgres.ends import ENDED, IDLE, WAITED, begin, check_rest, holds, stop_within_hold, work
@@ -122,6 +123,7 @@ def cut_within(near, far, owner):
     """The link is cut while one is within a hold, one within an append, and one does nothing."""
     checks, server = near.checks, near.server
     doubtful, idle = (begin(far, name, 2) for name in ("cut-append", "cut-idle"))
+    renewing = begin(far, "cut-again", 2, WULAMERON_RECONNECT=LONG)
     # Its own commits don't wait for the replica for which that of the other one waits.
     holding = begin(far, "cut-hold", 2, PGOPTIONS="-c synchronous_commit=local")
     server.delay_commits()
@@ -145,6 +147,8 @@ def cut_within(near, far, owner):
         checks.same(server.reason(session), IDLE, f"why the session ended of a process that is cut off within {what}")
     checks.need(not server.wait_dead("cut-idle"), "a node that is cut off is alive")
     meanwhile(near, "cut-idle", "while another is cut off")
+    checks.need(not server.wait_dead("cut-again"), "another node that is cut off is alive")
+    renewing.say("event create 2 0 late")
     check_over(checks, doubtful.end(), "cut-append", "a process that was cut off within an append")
     far.machine.mend(far.server.port)
     os.kill(holding.pid, signal.SIGCONT)
@@ -152,6 +156,9 @@ def cut_within(near, far, owner):
     reply = idle.reply("event create 2 0 late")
     checks.need(is_refused(reply), f"the reply to who was cut off: {reply}")
     check_over(checks, idle.end(), "cut-idle", "a process that was cut off")
+    reply, ran = renewing.hear(), renewing.end()
+    fine = reply and reply.startswith("ok 0 ") and ran.status == 0 and ran.err == f"{AGAIN}\n"
+    checks.need(fine, f"a process that was cut off and may connect again: {reply}, {ran}")
 
 
 def cut_shortly(far):
@@ -189,7 +196,7 @@ def networks(site):
         cut_within(near, far, owner)
         for name in ("cut-hold", "cut-append", "cut-idle"):
             check_rest(far, name, f"{name}, after the link is mended", (2, 1))
-        for name in ("cut-shortly",):
+        for name in ("cut-shortly", "cut-again"):
             table = replay(site.checks, server, name, name)
             site.checks.need(table and not table.world.remains(), f"{name}: it isn't left empty")
         owner.kill()
