@@ -52,9 +52,11 @@ class Renewing:
         self.checks.need(reply and reply.startswith(wanted), f"{what}: to {line!r}: {reply}")
 
     def ends(self, process, wanted, what, status=0):
-        """A process ends with these lines on the standard error."""
+        """A process ends with these lines on the standard error. On a slow machine more sessions may have ended."""
         ran = process.end()
         lines = ran.err.splitlines()
+        while lines.count(AGAIN) > wanted.count(AGAIN):
+            lines.remove(AGAIN)
         fine = ran.status == status and len(lines) == len(wanted) and all(map(str.__contains__, lines, wanted))
         self.checks.need(fine, f"{what}: it ended with {ran}, not {status} and {wanted}")
         self.checks.count("sessions ended", len(wanted))
@@ -159,20 +161,19 @@ def cleaned_up(own):
 
 def not_again(own):
     """No other session can be had: in time, before the process is killed, and at all."""
-    process = own.begin("again-late", PGUSER=PARTED, WULAMERON_RECONNECT=SHORT)
-    own.part(process, LATE)
-    own.ends(process, [NOT_AGAIN, "wulameron: postgres:again-late: "], "no other session in time", FAULT)
-    own.owner.call(OPEN)
-    process = own.begin("again-killed", PGUSER=PARTED)
-    own.part(process, LATE)
+    late = own.begin("again-late", PGUSER=PARTED, WULAMERON_RECONNECT=SHORT)
+    killed = own.begin("again-killed", PGUSER=PARTED)
+    never = own.begin("again-never", PGUSER=PARTED, WULAMERON_RECONNECT="0")
+    own.part(late, LATE)
+    own.ends(late, [NOT_AGAIN, "wulameron: postgres:again-late: "], "no other session in time", FAULT)
+    own.part(killed, LATE)
     began = time.monotonic()
-    process.kill()
+    killed.kill()
     own.checks.need(time.monotonic() - began < SOON, "a keeper goes on without its process")
+    own.part(never)
+    never.say(LATE)
+    check_over(own.checks, never.end(), "again-never", "a process that never connects again")
     own.owner.call(OPEN)
-    process = own.begin("again-never", WULAMERON_RECONNECT="0")
-    own.terminate(process)
-    process.say(LATE)
-    check_over(own.checks, process.end(), "again-never", "a process that never connects again")
     for name in ("again-late", "again-killed", "again-never"):
         own.cleaned(name, name)
 
