@@ -239,3 +239,62 @@ fn an_append_is_answered_by_its_place_alone(rt: HostRuntime) {
         assert_same(&rt, (told, appended(&rt, told)), (told, Some(wanted)));
     }
 }
+
+/// Why a handle that was told this start isn't had again where that is told in another session, if it isn't.
+fn had_again(rt: &HostRuntime, start: &str, told: &str) -> Option<Option<PostgresFault>> {
+    let start = script(rt, &[start])?;
+    let told = script(rt, &[told])?;
+    let mut asked = Vec::new(rt.alloc());
+    let mut asked_again = Vec::new(rt.alloc());
+    let log = open(rt, &mut asked, &start).ok()?;
+    Some(log.again(&mut asked_again, told.as_bytes()).err())
+}
+
+/// That a log stands in a later generation, with a snapshot of five entries.
+const LATER: &str = "1 7 3 0 5 $\nopened 00000\n";
+
+#[test]
+fn a_handle_goes_on_in_the_same_log_alone(rt: HostRuntime) {
+    for (start, told, wanted) in [
+        (OPENED, OPENED, None),
+        (OPENED, LATER, None),
+        (LATER, OPENED, Some(PostgresFault::AnotherHistory)),
+        (
+            OPENED,
+            "1 8 0 1 0 $\nopened 00000\n",
+            Some(PostgresFault::AnotherHistory),
+        ),
+        (OPENED, "opened 00000\n", Some(PostgresFault::NoLog)),
+        (OPENED, "", Some(PostgresFault::SessionEnded)),
+    ] {
+        assert_same(&rt, had_again(&rt, start, told), Some(wanted));
+    }
+}
+
+/// Whether a handle whose session ended behind an entry is free behind it in another one, and goes on if its place is
+/// told as it was, or as this.
+fn goes_on(rt: &HostRuntime, told: &str) -> Option<(bool, u64, Result<(), LogError>)> {
+    let first = script(rt, &[OPENED, HELD, "1 $\nappended 00000\n"])?;
+    let told = script(rt, &[OPENED, told])?;
+    let mut asked = Vec::new(rt.alloc());
+    let mut asked_again = Vec::new(rt.alloc());
+    let mut log = open(rt, &mut asked, &first).ok()?;
+    log.hold().ok()?;
+    log.append(&lock()).ok()?;
+    let is_over = log.look().is_err() && log.hold().is_err();
+    let mut again = log.again(&mut asked_again, told.as_bytes()).ok()?;
+    let is_free = is_over && again.state() == State::Free && again.fault().is_none();
+    let number = again.number();
+    Some((is_free, number, again.hold()))
+}
+
+#[test]
+fn a_handle_goes_on_behind_the_entry_where_it_stood(rt: HostRuntime) {
+    for (told, wanted) in [
+        ("\n1 $ 1\nheld 00000\n", Ok(())),
+        ("\n1 ff$ 1\nheld 00000\n", Err(LogError::Failed)),
+        ("\nheld 00000\n", Err(LogError::Failed)),
+    ] {
+        assert_same(&rt, goes_on(&rt, told), Some((true, 1, wanted)));
+    }
+}

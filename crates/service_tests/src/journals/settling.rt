@@ -1,11 +1,13 @@
 //! Calls of a node that are refused between two of their accesses: the node gives back what they left, and keeps what
 //! it uses.
 
+use super::support::copies;
 use crate::support::{assert_same, granted, push, there};
 use iceoryx2_commands::command::Reply;
 use iceoryx2_description::config::Config;
 use iceoryx2_journal::journal::Journal;
 use iceoryx2_log::call_log::CallLog;
+use iceoryx2_log::entry::Entry;
 use iceoryx2_log::memory::MemoryLog;
 use iceoryx2_session::session::Session;
 use std::alloc::Global;
@@ -140,4 +142,70 @@ fn what_a_refused_create_left_is_given_back(rt: HostRuntime) {
 fn what_a_refused_close_left_is_given_back(rt: HostRuntime) {
     let lines = ["event create 1 0 b", "event create 1 1 a", "close 1"];
     assert_same(&rt, most_left(&rt, rt.alloc(), &lines) > 0, true);
+}
+
+/// Copies of what stands in a journal's log.
+fn standing(rt: &impl Abort, alloc: Global, journal: &Journal<CallLog<MemoryLog>>) -> Vec<Entry> {
+    copies(rt, alloc, journal.log().log().entries())
+}
+
+/// The journal of a process that has created `a` and closed nothing, where appends are refused from this one on.
+fn journal_of_create(rt: &impl Abort, alloc: Global, first: u64) -> Journal<CallLog<MemoryLog>> {
+    let mut process = process(rt, alloc, first);
+    let _reply = reply(rt, alloc, &mut process, "event create 1 0 a");
+    let _was_held = process.abandon(0);
+    process.close_all()
+}
+
+/// What a journal comes to that goes on over a log of which it has taken so many entries, and gives all back then.
+fn gone_on(
+    alloc: Global,
+    journal: Journal<CallLog<MemoryLog>>,
+    entries: Vec<Entry>,
+    taken: usize,
+) -> (bool, bool, usize, bool, usize) {
+    let mut journal = journal;
+    let taken = taken.min(entries.len());
+    let is_all = journal.resume(CallLog::new(MemoryLog::from_entries(alloc, entries, taken)));
+    let tickets = journal.world().tickets_held().len();
+    let is_settled = journal.settle(1, &[]).is_ok();
+    let left = journal.world().tags_held().len() + journal.world().rows_held().len();
+    (is_all, journal.is_over(), tickets, is_settled, left)
+}
+
+#[test]
+fn an_append_in_doubt_that_stands_is_found_and_given_back(rt: HostRuntime) {
+    let alloc = rt.alloc();
+    let entries = standing(&rt, alloc, &journal_of_create(&rt, alloc, LAST));
+    assert_same(&rt, entries.len(), 4);
+    for taken in 0..entries.len() {
+        let journal = journal_of_create(&rt, alloc, taken as u64 + 1);
+        let found = match entries.get(..taken + 1) {
+            Some(found) => copies(&rt, alloc, found),
+            None => Vec::new(alloc),
+        };
+        let tickets = if taken == 3 { 1 } else { 0 };
+        assert_same(
+            &rt,
+            gone_on(alloc, journal, found, taken),
+            (true, false, tickets, true, 0),
+        );
+    }
+}
+
+#[test]
+fn what_others_gave_back_in_its_name_is_taken_over(rt: HostRuntime) {
+    let alloc = rt.alloc();
+    let journal = journal_of_create(&rt, alloc, LAST);
+    let entries = standing(&rt, alloc, &journal);
+    let taken = entries.len();
+    let log = MemoryLog::from_entries(alloc, entries, 0);
+    let mut other = Journal::starting_at(alloc, log, Vec::new(alloc), 0);
+    let _cleaned = granted(&rt, other.clean(1));
+    let entries = copies(&rt, alloc, other.log().entries());
+    assert_same(
+        &rt,
+        gone_on(alloc, journal, entries, taken),
+        (true, false, 0, true, 0),
+    );
 }
