@@ -2,21 +2,22 @@
 use Rattle.std.proofs.Common.{◌≡◌, ℕ, List, subst}
 use Rattle.std.specs.Prelude.{Result, Ok, Err, IfOk}
 use Rattle.std.specs.Str.{IsUtf8}
+use Rattle.negotiate_lines.specs.declared.leaf.Form.{Form}
 use Rattle.negotiate_lines.specs.declared.line.Line.{Line}
 use Rattle.negotiate_lines.specs.declared.line.Line.TheVariants as line
 use Rattle.negotiate_lines.specs.declared.wrong.Wrong.TheVariants as wrong
 use Rattle.negotiate_lines.specs.Terms.{terms_of}
-use Rattle.negotiate_lines.specs.Lines.{AreLine, IsLine}
+use Rattle.negotiate_lines.specs.Lines.{AreLine, IsLineIn}
 use Rattle.negotiate_lines.specs.Wrongs.{not_utf8, in_terms}
 
-is_line : (bytes : List ℕ) (known : Line) → IsUtf8 bytes → AreLine (terms_of bytes) known → IsLine bytes known
-is_line bytes line.Blank utf8 are = (utf8, are)
-is_line bytes (line.Command command) utf8 are = (utf8, are)
-is_line bytes (line.NotACommand w) utf8 are = ((λ _. are.0), in_terms utf8 are.1)
+is_line : (form : Form) (bytes : List ℕ) (known : Line) → IsUtf8 bytes → AreLine form (terms_of bytes) known → IsLineIn form bytes known
+is_line form bytes line.Blank utf8 are = (utf8, are)
+is_line form bytes (line.Command command) utf8 are = (utf8, are)
+is_line form bytes (line.NotACommand w) utf8 are = ((λ _. are.0), in_terms utf8 are.1)
 
-pub line_known : {E : Type 0} (bytes text : List ℕ) (r : Result Line E) → text ≡ bytes → IsUtf8 bytes → IfOk r (AreLine (terms_of text)) → IfOk r (IsLine bytes)
-line_known bytes text (Ok known) same utf8 are = is_line bytes known utf8 (subst (λ (t : List ℕ). AreLine (terms_of t) known) same are)
-line_known bytes text (Err e) same utf8 are = tt
+pub line_known : {E : Type 0} (form : Form) (bytes text : List ℕ) (r : Result Line E) → text ≡ bytes → IsUtf8 bytes → IfOk r (AreLine form (terms_of text)) → IfOk r (IsLineIn form bytes)
+line_known form bytes text (Ok known) same utf8 are = is_line form bytes known utf8 (subst (λ (t : List ℕ). AreLine form (terms_of t) known) same are)
+line_known form bytes text (Err e) same utf8 are = tt
 
-pub no_text_known : (bytes : List ℕ) → (IsUtf8 bytes → ⊥) → IsLine bytes (line.NotACommand wrong.NotUtf8)
-no_text_known bytes none = ((λ is. absurd (none is)), not_utf8 none)
+pub no_text_known : (form : Form) (bytes : List ℕ) → (IsUtf8 bytes → ⊥) → IsLineIn form bytes (line.NotACommand wrong.NotUtf8)
+no_text_known form bytes none = ((λ is. absurd (none is)), not_utf8 none)

@@ -1,7 +1,9 @@
+pub mod Additions
 pub mod Around
 pub mod CallSteps
 pub mod Numbers
 pub mod OneInstruction
+pub mod OneLeaf
 pub mod OneType
 pub mod OneValue
 pub mod Reading
@@ -12,3 +14,7 @@ pub mod Judging
 pub mod WrongTerms
 pub mod OneCommand
 pub mod Shown
+pub mod LeavesPlain
+pub mod LeavesBack
+pub mod LeavesWhole
+pub mod LeavesUtf8

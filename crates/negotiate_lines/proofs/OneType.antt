@@ -3,9 +3,12 @@ use Rattle.std.proofs.Common.{◌≡◌, ℕ, List, bytes_eq, codes, refl, sym, 
 use Rattle.iceoryx2_types.specs.declared.types.TypeVariant.{TypeVariant}
 use Rattle.iceoryx2_types.specs.declared.types.TypeVariant.TheVariants.{FixedSize, Dynamic}
 use Rattle.iceoryx2_types.specs.Types.{Detail, HasNameLength, IsAlignment}
+use Rattle.negotiate_lines.specs.declared.leaf.Form.{Form}
+use Rattle.negotiate_lines.specs.Leaves.{IsLeaf}
 use Rattle.negotiate_lines.specs.Terms.{AreAround}
 use Rattle.negotiate_lines.specs.Values.{IsNatural, IsAlignmentTerm, IsVariantTerm, AreParts, IsDetailTerm}
 use Rattle.negotiate_lines.proofs.Around.{one_cut}
+use Rattle.negotiate_lines.proofs.OneLeaf.{one_leaf}
 use Rattle.negotiate_lines.proofs.OneValue.{one_natural, false-true}
 
 pub one_alignment : (value : List ℕ) (n m : ℕ) → IsAlignmentTerm value n → IsAlignmentTerm value m → n ≡ m
@@ -39,10 +42,10 @@ one_parting value a b c d e f g h left right =
     (subst (λ (t : List ℕ). AreAround 44 t c d) between.back left.around_third) right.around_third in
     record { first = outer.front; second = between.front; third = inner.front; fourth = inner.back }
 
-pub one_detail : (value : List ℕ) (a b : Detail) → IsDetailTerm value a → IsDetailTerm value b → a ≡ b
-one_detail value a b left right =
+pub one_detail : (form : Form) (value : List ℕ) (a b : Detail) → IsDetailTerm form value a → IsDetailTerm form value b → a ≡ b
+one_detail form value a b left right =
     let same =
-    one_parting value left.variant a.name left.size left.alignment right.variant b.name right.size right.alignment
+    one_parting value left.variant left.name left.size left.alignment right.variant right.name right.size right.alignment
     left.parts right.parts in
     let variant =
     one_variant right.variant a.variant b.variant
@@ -53,45 +56,49 @@ one_detail value a b left right =
     let alignment =
     one_alignment right.alignment a.alignment b.alignment
     (subst (λ (t : List ℕ). IsAlignmentTerm t a.alignment) same.fourth left.alignment_is) right.alignment_is in
-    λ i. record { variant = variant i; name = same.second i; size = size i; alignment = alignment i }
+    let name =
+    one_leaf form right.name a.name b.name
+    (subst (λ (t : List ℕ). IsLeaf form t a.name) same.second left.text_is) right.text_is in
+    λ i. record { variant = variant i; name = name i; size = size i; alignment = alignment i }
 
 -- ---- values that mean no type
 
 -- what means a type is around its first three commas
-module _ (value variant name size alignment : List ℕ) (parts : AreParts value variant name size alignment) where
-  same_parts : (d : Detail) (is : IsDetailTerm value d)
-      → SameParts variant name size alignment is.variant d.name is.size is.alignment
-  same_parts d is = one_parting value variant name size alignment is.variant d.name is.size is.alignment parts is.parts
+module _ (form : Form) (value variant name size alignment : List ℕ) (parts : AreParts value variant name size alignment) where
+  same_parts : (d : Detail) (is : IsDetailTerm form value d)
+      → SameParts variant name size alignment is.variant is.name is.size is.alignment
+  same_parts d is = one_parting value variant name size alignment is.variant is.name is.size is.alignment parts is.parts
 
-  pub no_variant : ((v : TypeVariant) → IsVariantTerm variant v → ⊥) → (d : Detail) → IsDetailTerm value d
+  pub no_variant : ((v : TypeVariant) → IsVariantTerm variant v → ⊥) → (d : Detail) → IsDetailTerm form value d
       → ⊥
   no_variant none d is =
       none d.variant (subst (λ (t : List ℕ). IsVariantTerm t d.variant) (sym (same_parts d is).first) is.variant_is)
 
-  pub no_size : ((n : ℕ) → IsNatural size n → ⊥) → (d : Detail) → IsDetailTerm value d → ⊥
+  pub no_size : ((n : ℕ) → IsNatural size n → ⊥) → (d : Detail) → IsDetailTerm form value d → ⊥
   no_size none d is =
       none d.size (subst (λ (t : List ℕ). IsNatural t d.size) (sym (same_parts d is).third) is.size_is)
 
-  pub no_alignment : ((n : ℕ) → IsNatural alignment n → ⊥) → (d : Detail) → IsDetailTerm value d → ⊥
+  pub no_alignment : ((n : ℕ) → IsNatural alignment n → ⊥) → (d : Detail) → IsDetailTerm form value d → ⊥
   no_alignment none d is =
       none d.alignment (subst (λ (t : List ℕ). IsNatural t d.alignment)
       (sym (same_parts d is).fourth) is.alignment_is.0)
 
-  pub no_name : (HasNameLength name → ⊥) → (d : Detail) → IsDetailTerm value d → ⊥
-  no_name out d is = out (subst (λ (t : List ℕ). HasNameLength t) (sym (same_parts d is).second) is.name_is)
+  pub no_name : ((text : List ℕ) → IsLeaf form name text → HasNameLength text → ⊥) → (d : Detail) → IsDetailTerm form value d → ⊥
+  no_name out d is =
+      out d.name (subst (λ (t : List ℕ). IsLeaf form t d.name) (sym (same_parts d is).second) is.text_is) is.name_is
 
   pub not_aligned : (n : ℕ) → IsNatural alignment n → (IsAlignment n → ⊥) → (d : Detail)
-      → IsDetailTerm value d → ⊥
+      → IsDetailTerm form value d → ⊥
   not_aligned n number out d is =
       let same =
       one_natural alignment n d.alignment number (subst (λ (t : List ℕ). IsNatural t d.alignment)
       (sym (same_parts d is).fourth) is.alignment_is.0) in
       out (subst (λ (m : ℕ). IsAlignment m) (sym same) is.alignment_is.1)
 
-pub no_parts : (value : List ℕ)
+pub no_parts : (form : Form) (value : List ℕ)
     → ((first second third fourth : List ℕ) → AreParts value first second third fourth → ⊥) → (d : Detail)
-    → IsDetailTerm value d → ⊥
-no_parts value none d is = none is.variant d.name is.size is.alignment is.parts
+    → IsDetailTerm form value d → ⊥
+no_parts form value none d is = none is.variant is.name is.size is.alignment is.parts
 
 -- ---- values that have no such parts
 

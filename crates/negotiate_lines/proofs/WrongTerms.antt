@@ -5,6 +5,7 @@ use Rattle.iceoryx2_commands.specs.declared.command.How.{How}
 use Rattle.iceoryx2_commands.specs.declared.command.How.TheVariants as how
 use Rattle.iceoryx2_description.specs.Span.{Span}
 use Rattle.iceoryx2_description.specs.declared.time.ClockFault.{ClockFault}
+use Rattle.negotiate_lines.specs.declared.leaf.Form.{Form}
 use Rattle.negotiate_lines.specs.declared.call_term.CallTerm.{CallTerm}
 use Rattle.negotiate_lines.specs.declared.term.TermError.{TermError}
 use Rattle.negotiate_lines.specs.declared.term.TermError.TheVariants as error
@@ -19,14 +20,14 @@ use Rattle.negotiate_lines.specs.Commands.{admitted_of}
 use Rattle.negotiate_lines.specs.Wrongs.{Judges, WrongStep, WrongTerm, refused, IsNoValue}
 use Rattle.negotiate_lines.proofs.OneInstruction.{one_instruction}
 
-module _ {S : Type 0} (v : Vocabulary S) (h : How) (old : Arguments S) (term : List ℕ) where
+module _ {S : Type 0} (form : Form) (v : Vocabulary S) (h : How) (old : Arguments S) (term : List ℕ) where
   -- what a term means is followed, or it is wrong
-  pub follows_judged : (instruction : Instruction S) → IsInstructionOf v (admitted_of v.has_clock h) term instruction → (r : Result (Arguments S) Flaw)
-      → Judges (Follows old instruction) (WrongStep old instruction) r → Judges (TakesTerm v (admitted_of v.has_clock h) old term) (WrongTerm v h old term) r
+  pub follows_judged : (instruction : Instruction S) → IsInstructionOf form v (admitted_of v.has_clock h) term instruction → (r : Result (Arguments S) Flaw)
+      → Judges (Follows form old instruction) (WrongStep form old instruction) r → Judges (TakesTerm form v (admitted_of v.has_clock h) old term) (WrongTerm form v h old term) r
   follows_judged instruction is_such (Ok new) follows = (instruction, is_such, follows)
   follows_judged instruction is_such (Err (flaw.Wrong w)) judged = (
     λ new taken.
-        judged.0 new (subst (λ (i : Instruction S). Follows old i new) (one_instruction v (admitted_of v.has_clock h) term taken.0 instruction taken.1 is_such) taken.2),
+        judged.0 new (subst (λ (i : Instruction S). Follows form old i new) (one_instruction form v (admitted_of v.has_clock h) term taken.0 instruction taken.1 is_such) taken.2),
     refused instruction is_such judged.1,
   )
   follows_judged instruction is_such (Err flaw.OutOfMemory) judged = tt
@@ -70,10 +71,10 @@ no_row_of_kind [] name e = refl
 no_row_of_kind (row ∷ rows) name e = none_if row.1 (bytes_eq name row.0) _ _ (no_row_of_kind rows name) e
 
 -- a value that its setting doesn't take
-pub no_value : {S : Type 0} (v : Vocabulary S) (h : How) (name value : List ℕ) (kind : Kind)
-    → ((instruction : Instruction S) → IsValueOf v.rows (admitted_of v.has_clock h) name value instruction → ⊥)
-    → row_of common_rows name ≡ None → row_of (kinds_of v.rows) name ≡ Some kind → IsNoValue v name value kind
-no_value {S = S} v h name value kind none common found =
+pub no_value : {S : Type 0} (form : Form) (v : Vocabulary S) (h : How) (name value : List ℕ) (kind : Kind)
+    → ((instruction : Instruction S) → IsValueOf form v.rows (admitted_of v.has_clock h) name value instruction → ⊥)
+    → row_of common_rows name ≡ None → row_of (kinds_of v.rows) name ≡ Some kind → IsNoValue form v name value kind
+no_value {S = S} form v h name value kind none common found =
     let has = row_of_kind v.rows name kind found in
     record {
       takes = has.takes;
@@ -81,32 +82,32 @@ no_value {S = S} v h name value kind none common found =
       kind_is = has.kind_is;
       none = λ s sets.
           none (setting s)
-          (subst (λ c. MatchOption c ((t : S) × IsSettingOf v.rows name value t × (setting s ≡ setting t)) (λ common. IsCommonOf (admitted_of v.has_clock h) common value (setting s)))
-          (sym common) (s, subst (λ r. MatchOption r ⊥ (λ takes. Sets takes value s)) (sym has.row) sets, refl));
+          (subst (λ c. MatchOption c ((t : S) × IsSettingOf form v.rows name value t × (setting s ≡ setting t)) (λ common. IsCommonOf (admitted_of v.has_clock h) common value (setting s)))
+          (sym common) (s, subst (λ r. MatchOption r ⊥ (λ takes. Sets form takes value s)) (sym has.row) sets, refl));
     }
 
 -- ---- the clock, and keys
 
-module _ {S : Type 0} (v : Vocabulary S) (h : How) (value : List ℕ) where
+module _ {S : Type 0} (form : Form) (v : Vocabulary S) (h : How) (value : List ℕ) where
   pub no_time : (admitted_of v.has_clock h).now ≡ true
-      → ((instruction : Instruction S) → IsValueOf v.rows (admitted_of v.has_clock h) (codes "now") value instruction → ⊥)
+      → ((instruction : Instruction S) → IsValueOf form v.rows (admitted_of v.has_clock h) (codes "now") value instruction → ⊥)
       → (time : Result Span ClockFault) → IsClockTerm value time → ⊥
   no_time on none time is = none (now time) (on, (time, is, refl))
 
-  pub no_colon : ((instruction : Instruction S) → IsValueOf v.rows (admitted_of v.has_clock h) (codes "attribute") value instruction → ⊥)
+  pub no_colon : ((instruction : Instruction S) → IsValueOf form v.rows (admitted_of v.has_clock h) (codes "attribute") value instruction → ⊥)
       → (front back : List ℕ) → AreAround 58 value front back → ⊥
   no_colon none front back around = none (attribute front back) (record { key = front; text = back; around = around; is = refl })
 
 -- a key that means nothing is one of a create
-pub key_of_create : {S : Type 0} (v : Vocabulary S) (h : How) (value : List ℕ)
-    → ((instruction : Instruction S) → IsValueOf v.rows (admitted_of v.has_clock h) (codes "require_key") value instruction → ⊥) → h ≡ how.Create
-key_of_create v how.Create value none = refl
-key_of_create v how.Open value none = absurd (none (required_key value) (refl, refl))
-key_of_create v how.OpenOrCreate value none = absurd (none (required_key value) (refl, refl))
+pub key_of_create : {S : Type 0} (form : Form) (v : Vocabulary S) (h : How) (value : List ℕ)
+    → ((instruction : Instruction S) → IsValueOf form v.rows (admitted_of v.has_clock h) (codes "require_key") value instruction → ⊥) → h ≡ how.Create
+key_of_create form v how.Create value none = refl
+key_of_create form v how.Open value none = absurd (none (required_key value) (refl, refl))
+key_of_create form v how.OpenOrCreate value none = absurd (none (required_key value) (refl, refl))
 
 -- what is meant behind a name is meant behind the same name
-pub behind_name : {S : Type 0} (v : Vocabulary S) (h : How) (name other value : List ℕ) → name ≡ other
-    → ((instruction : Instruction S) → IsValueOf v.rows (admitted_of v.has_clock h) name value instruction → ⊥)
-    → (instruction : Instruction S) → IsValueOf v.rows (admitted_of v.has_clock h) other value instruction → ⊥
-behind_name v h name other value same none instruction is_such =
-    none instruction (subst (λ (n : List ℕ). IsValueOf v.rows (admitted_of v.has_clock h) n value instruction) (sym same) is_such)
+pub behind_name : {S : Type 0} (form : Form) (v : Vocabulary S) (h : How) (name other value : List ℕ) → name ≡ other
+    → ((instruction : Instruction S) → IsValueOf form v.rows (admitted_of v.has_clock h) name value instruction → ⊥)
+    → (instruction : Instruction S) → IsValueOf form v.rows (admitted_of v.has_clock h) other value instruction → ⊥
+behind_name form v h name other value same none instruction is_such =
+    none instruction (subst (λ (n : List ℕ). IsValueOf form v.rows (admitted_of v.has_clock h) n value instruction) (sym same) is_such)

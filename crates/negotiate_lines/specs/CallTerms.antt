@@ -8,6 +8,8 @@ use Rattle.iceoryx2_description.specs.declared.time.ClockFault.{ClockFault}
 use Rattle.iceoryx2_description.specs.Span.{Span, zero_span}
 use Rattle.iceoryx2_access.specs.Run.{Run}
 use Rattle.negotiate_lines.specs.declared.call_term.CallTerm.{CallTerm}
+use Rattle.negotiate_lines.specs.declared.leaf.Form.{Form}
+use Rattle.negotiate_lines.specs.Leaves.{IsLeaf}
 use Rattle.negotiate_lines.specs.declared.call_term.CallTerm.TheVariants as term
 use Rattle.negotiate_lines.specs.declared.vocabulary.Admitted.{Admitted}
 use Rattle.negotiate_lines.specs.declared.term.TermError.{TermError}
@@ -18,7 +20,7 @@ use Rattle.negotiate_lines.specs.Vocabulary.{CommonTerm, clock_term, pair_term, 
 
 -- ---- one term
 
--- what a term gives a call
+-- what a term gives a call: of a pair and of a key it has the leaves
 pub data Instruction (S : Type 0) : Type 0 where
   setting : S → Instruction S
   now : Result Span ClockFault → Instruction S
@@ -40,19 +42,20 @@ IsCommonOf admitted pair_term value instruction = IsPairOf value instruction
 IsCommonOf admitted key_term value instruction = IsTrue admitted.require_key × (instruction ≡ required_key value)
 
 -- what a value means behind any name
-abbrev pub IsValueOf : {S : Type 0} → List (VocabularyRow S) → Admitted → (name value : List ℕ) → Instruction S → Type 0
-IsValueOf {S = S} rows admitted name value instruction =
-    MatchOption (row_of common_rows name) ((s : S) × IsSettingOf rows name value s × (instruction ≡ setting s))
+abbrev pub IsValueOf : {S : Type 0} → Form → List (VocabularyRow S) → Admitted → (name value : List ℕ)
+    → Instruction S → Type 0
+IsValueOf {S = S} form rows admitted name value instruction =
+    MatchOption (row_of common_rows name) ((s : S) × IsSettingOf form rows name value s × (instruction ≡ setting s))
     (λ common. IsCommonOf admitted common value instruction)
 
 -- A term is a name and a value, around its first `=`.
-pub record IsInstructionOf {S : Type 0} (v : Vocabulary S) (admitted : Admitted) (term : List ℕ)
+pub record IsInstructionOf {S : Type 0} (form : Form) (v : Vocabulary S) (admitted : Admitted) (term : List ℕ)
     (instruction : Instruction S)
     : Type 0 where
   pub name : List ℕ
   pub value : List ℕ
   pub around : AreAround 61 term name value
-  pub value_is : IsValueOf v.rows admitted name value instruction
+  pub value_is : IsValueOf form v.rows admitted name value instruction
 
 -- what is meant by what was read
 abbrev pub instruction_of : {S : Type 0} → CallTerm S → Instruction S
@@ -82,24 +85,36 @@ abbrev pub Requires : {S : Type 0} → Arguments S → Requirements → Argument
 Requires old requirements new =
     new ≡ record { settings = old.settings; requirements = requirements; now = old.now }
 
--- What an instruction changes. A pair or a key that is refused is no step.
-abbrev pub Follows : {S : Type 0} → Arguments S → Instruction S → Arguments S → Type 0
-Follows old (setting s) new =
+-- the texts of a pair, by its leaves
+pub record PairTexts (form : Form) (key value : List ℕ) : Type 0 where
+  pub key_text : List ℕ
+  pub value_text : List ℕ
+  pub key_is : IsLeaf form key key_text
+  pub value_is : IsLeaf form value value_text
+
+-- the text of a leaf
+abbrev pub LeafText : Form → (leaf : List ℕ) → Type 0
+LeafText form leaf = (text : List ℕ) × IsLeaf form leaf text
+
+-- What an instruction changes. A pair or a key that is refused is no step, and neither is one of a broken leaf.
+abbrev pub Follows : {S : Type 0} → Form → Arguments S → Instruction S → Arguments S → Type 0
+Follows form old (setting s) new =
     new ≡ record { settings = old.settings ++ s ∷ []; requirements = old.requirements; now = old.now }
-Follows old (now time) new =
+Follows form old (now time) new =
     new ≡ record { settings = old.settings; requirements = old.requirements; now = time }
-Follows old (attribute key value) new =
-    AddsPair old.requirements.pairs (pair_of key value) (Ok tt) new.requirements.pairs
+Follows form old (attribute key value) new =
+    ((p : PairTexts form key value)
+    × AddsPair old.requirements.pairs (pair_of p.key_text p.value_text) (Ok tt) new.requirements.pairs)
     × Requires old (record { pairs = new.requirements.pairs; keys = old.requirements.keys }) new
-Follows old (required_key key) new =
-    AddsKey old.requirements.keys key (Ok tt) new.requirements.keys
+Follows form old (required_key key) new =
+    ((t : LeafText form key) × AddsKey old.requirements.keys t.0 (Ok tt) new.requirements.keys)
     × Requires old (record { pairs = old.requirements.pairs; keys = new.requirements.keys }) new
 
 -- The term means an instruction, which is followed.
-abbrev pub TakesTerm : {S : Type 0} → Vocabulary S → Admitted
+abbrev pub TakesTerm : {S : Type 0} → Form → Vocabulary S → Admitted
     → Arguments S → List ℕ → Arguments S → Type 0
-TakesTerm {S = S} v admitted old term new =
-    (instruction : Instruction S) × IsInstructionOf v admitted term instruction × Follows old instruction new
+TakesTerm {S = S} form v admitted old term new =
+    (instruction : Instruction S) × IsInstructionOf form v admitted term instruction × Follows form old instruction new
 
 -- what was changed where it is, as an answer that has it
 abbrev pub in_place : {A E : Type 0} → Result Unit E → A → Result A E
@@ -107,6 +122,6 @@ in_place (Ok done) new = Ok new
 in_place (Err e) new = Err e
 
 -- the terms, one after the other
-abbrev pub TakesTerms : {S : Type 0} → Vocabulary S → Admitted
+abbrev pub TakesTerms : {S : Type 0} → Form → Vocabulary S → Admitted
     → Arguments S → List (List ℕ) → Arguments S → Type 0
-TakesTerms v admitted = Run (TakesTerm v admitted)
+TakesTerms form v admitted = Run (TakesTerm form v admitted)

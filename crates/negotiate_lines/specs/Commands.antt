@@ -10,6 +10,8 @@ use Rattle.iceoryx2_commands.specs.declared.command.Settings.{Settings}
 use Rattle.iceoryx2_commands.specs.declared.command.Settings.TheVariants as settings
 use Rattle.iceoryx2_commands.specs.Commands.{slot_count}
 use Rattle.negotiate_lines.specs.declared.vocabulary.Admitted.{Admitted}
+use Rattle.negotiate_lines.specs.declared.leaf.Form.{Form}
+use Rattle.negotiate_lines.specs.Leaves.{IsLeaf}
 use Rattle.negotiate_lines.specs.Terms.{IsNumber}
 use Rattle.negotiate_lines.specs.Vocabulary.{Vocabulary}
 use Rattle.negotiate_lines.specs.CallTerms.{no_arguments, TakesTerms}
@@ -30,16 +32,18 @@ admitted_of has_clock how.Open = record { now = false; require_key = true }
 admitted_of has_clock how.OpenOrCreate = record { now = has_clock; require_key = true }
 
 -- The terms are a call in a pattern's vocabulary. Those behind the name make all of it that the first five don't.
-pub record IsNamedCallOf {S : Type 0} (v : Vocabulary S) (terms : List (List ℕ)) (call : NamedCall S)
+pub record IsNamedCallOf {S : Type 0} (form : Form) (v : Vocabulary S) (terms : List (List ℕ)) (call : NamedCall S)
     : Type 0 where
   pub node : List ℕ
   pub slot : List ℕ
+  pub name : List ℕ
   pub others : List (List ℕ)
-  pub are : terms ≡ v.pattern ∷ how_term call.how ∷ node ∷ slot ∷ call.name ∷ others
+  pub are : terms ≡ v.pattern ∷ how_term call.how ∷ node ∷ slot ∷ name ∷ others
   pub node_is : IsNumber (2 ^ 64) node call.node
   pub slot_is : IsNumber slot_count slot call.slot
+  pub text_is : IsLeaf form name call.name
   pub name_is : IsName call.name
-  pub taken : TakesTerms v (admitted_of v.has_clock call.how) no_arguments others call.arguments
+  pub taken : TakesTerms form v (admitted_of v.has_clock call.how) no_arguments others call.arguments
 
 -- a session's call, with its settings as a pattern has them
 abbrev pub as_named : {S : Type 0} → Call → List S → NamedCall S
@@ -52,12 +56,13 @@ as_named call setters = record {
 }
 
 -- The terms are a builder call, in the vocabulary of the pattern of its settings.
-abbrev pub IsCallOf : Settings → List (List ℕ) → Call → Type 0
-IsCallOf (settings.Event setters) terms call = IsNamedCallOf event_vocabulary terms (as_named call setters.items)
-IsCallOf (settings.PublishSubscribe setters) terms call =
-    IsNamedCallOf publish_subscribe_vocabulary terms (as_named call setters.items)
-IsCallOf (settings.RequestResponse setters) terms call =
-    IsNamedCallOf request_response_vocabulary terms (as_named call setters.items)
+abbrev pub IsCallOf : Form → Settings → List (List ℕ) → Call → Type 0
+IsCallOf form (settings.Event setters) terms call =
+    IsNamedCallOf form event_vocabulary terms (as_named call setters.items)
+IsCallOf form (settings.PublishSubscribe setters) terms call =
+    IsNamedCallOf form publish_subscribe_vocabulary terms (as_named call setters.items)
+IsCallOf form (settings.RequestResponse setters) terms call =
+    IsNamedCallOf form request_response_vocabulary terms (as_named call setters.items)
 
 -- The terms close a slot.
 pub record IsCloseOf (terms : List (List ℕ)) (closed : ℕ) : Type 0 where
@@ -65,8 +70,8 @@ pub record IsCloseOf (terms : List (List ℕ)) (closed : ℕ) : Type 0 where
   pub are : terms ≡ codes "close" ∷ slot ∷ []
   pub slot_is : IsNumber slot_count slot closed
 
--- The terms are the command.
-abbrev pub IsCommandOf : List (List ℕ) → Command → Type 0
-IsCommandOf terms (command.Call call) = IsCallOf call.settings terms call
-IsCommandOf terms (command.Close slot) = IsCloseOf terms slot
-IsCommandOf terms command.List = terms ≡ codes "list" ∷ []
+-- The terms are the command, in a line of this form.
+abbrev pub IsCommandOf : Form → List (List ℕ) → Command → Type 0
+IsCommandOf form terms (command.Call call) = IsCallOf form call.settings terms call
+IsCommandOf form terms (command.Close slot) = IsCloseOf terms slot
+IsCommandOf form terms command.List = terms ≡ codes "list" ∷ []

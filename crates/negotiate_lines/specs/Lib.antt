@@ -7,5 +7,7 @@ pub mod Values
 pub mod Terms
 pub mod Nearest
 pub mod Escapes
+pub mod Leaves
+pub mod Questions
 pub mod WrongTexts
 pub mod Wrongs

@@ -6,6 +6,8 @@ use Rattle.iceoryx2_types.specs.Types.{Detail, HasNameLength, IsAlignment}
 use Rattle.iceoryx2_description.specs.declared.time.TheConstants.{NANOSECONDS_PER_SECOND}
 use Rattle.iceoryx2_description.specs.declared.time.ClockFault.{ClockFault}
 use Rattle.iceoryx2_description.specs.Span.{Span}
+use Rattle.negotiate_lines.specs.declared.leaf.Form.{Form}
+use Rattle.negotiate_lines.specs.Leaves.{IsLeaf}
 use Rattle.negotiate_lines.specs.Terms.{AreAround, IsNumber}
 
 abbrev pub IsNatural : List ℕ → ℕ → Type 0
@@ -54,12 +56,14 @@ pub record AreParts (value first second third fourth : List ℕ) : Type 0 where
   pub around_third : AreAround 44 behind_second third fourth
 
 -- Variant, name, size and alignment of a type. A fourth comma would stand in the alignment, which is a number.
-pub record IsDetailTerm (value : List ℕ) (detail : Detail) : Type 0 where
+pub record IsDetailTerm (form : Form) (value : List ℕ) (detail : Detail) : Type 0 where
   pub variant : List ℕ
+  pub name : List ℕ
   pub size : List ℕ
   pub alignment : List ℕ
-  pub parts : AreParts value variant detail.name size alignment
+  pub parts : AreParts value variant name size alignment
   pub variant_is : IsVariantTerm variant detail.variant
+  pub text_is : IsLeaf form name detail.name
   pub name_is : HasNameLength detail.name
   pub size_is : IsNatural size detail.size
   pub alignment_is : IsAlignmentTerm alignment detail.alignment

@@ -7,6 +7,7 @@ use Rattle.iceoryx2_types.specs.Types.{Detail}
 use Rattle.iceoryx2_description.specs.Span.{Span}
 use Rattle.negotiate_lines.specs.declared.vocabulary.Kind.{Kind}
 use Rattle.negotiate_lines.specs.declared.vocabulary.Kind.TheVariants as kind
+use Rattle.negotiate_lines.specs.declared.leaf.Form.{Form}
 use Rattle.negotiate_lines.specs.Values.{IsNatural, IsNoneOr, IsSpanTerm, IsTruthTerm, IsAlignmentTerm, IsDetailTerm}
 
 -- What kind of value a setting takes, and which setter is made of it. S are the setters of a pattern's builder.
@@ -31,14 +32,14 @@ kind_of (type setter) = kind.Type
 abbrev pub Gives : {A S : Type 0} → (List ℕ → A → Type 0) → (A → S) → List ℕ → S → Type 0
 Gives {A = A} IsSuch setter value s = (a : A) × IsSuch value a × (s ≡ setter a)
 
--- the value means the setter that is made of it
-abbrev pub Sets : {S : Type 0} → Takes S → List ℕ → S → Type 0
-Sets (number setter) = Gives IsNatural setter
-Sets (truth setter) = Gives IsTruthTerm setter
-Sets (event setter) = Gives (IsNoneOr IsNatural) setter
-Sets (time setter) = Gives (IsNoneOr IsSpanTerm) setter
-Sets (alignment setter) = Gives IsAlignmentTerm setter
-Sets (type setter) = Gives IsDetailTerm setter
+-- the value means the setter that is made of it, in a line of this form
+abbrev pub Sets : {S : Type 0} → Form → Takes S → List ℕ → S → Type 0
+Sets form (number setter) = Gives IsNatural setter
+Sets form (truth setter) = Gives IsTruthTerm setter
+Sets form (event setter) = Gives (IsNoneOr IsNatural) setter
+Sets form (time setter) = Gives (IsNoneOr IsSpanTerm) setter
+Sets form (alignment setter) = Gives IsAlignmentTerm setter
+Sets form (type setter) = Gives (IsDetailTerm form) setter
 
 -- a row: the name of a setting, and what it takes
 abbrev pub VocabularyRow : Type 0 → Type 0
@@ -58,8 +59,8 @@ row_of [] name = None
 row_of (row ∷ rows) name = if bytes_eq name row.0 then Some row.1 else row_of rows name
 
 -- The value means a setter, by the row of this name.
-abbrev pub IsSettingOf : {S : Type 0} → List (VocabularyRow S) → (name value : List ℕ) → S → Type 0
-IsSettingOf rows name value s = MatchOption (row_of rows name) ⊥ (λ takes. Sets takes value s)
+abbrev pub IsSettingOf : {S : Type 0} → Form → List (VocabularyRow S) → (name value : List ℕ) → S → Type 0
+IsSettingOf form rows name value s = MatchOption (row_of rows name) ⊥ (λ takes. Sets form takes value s)
 
 -- S are the setters of its builder with their values.
 pub record Vocabulary (S : Type 0) : Type 0 where

@@ -33,6 +33,7 @@ flaw_text wrong.NoSlot = codes "no slot; it is a number from 0 to 63"
 flaw_text (wrong.NoSlotNumber term) = codes "slot " ++ (shown term.now ++ codes ": a number from 0 to 63")
 flaw_text (wrong.SlotTooGreat term) = codes "slot " ++ (shown term.now ++ codes ": at most 63")
 flaw_text wrong.NoName = codes "no name"
+flaw_text (wrong.BrokenLeaf term) = shown term.now ++ codes ": a % stands before two digits of a byte of UTF-8"
 flaw_text (wrong.NameLength term) = codes "name " ++ (shown term.now ++ codes ": 1 to 255 bytes")
 flaw_text (wrong.NoEqualsSign term) = shown term.now ++ codes ": no =; it is <setting>=<value>"
 flaw_text (wrong.NoSuchSetting name pattern settings admitted) =

@@ -5,9 +5,14 @@ ghost use Rattle.negotiate_lines.specs.Terms.{terms_of};
 ghost use Rattle.negotiate_lines.specs.Commands.{admitted_of};
 ghost use Rattle.negotiate_lines.specs.CallTerms.{Follows, Arguments, TakesTerm, TakesTerms, attribute};
 ghost use Rattle.negotiate_lines.specs.CallTerms.{in_place, instruction_of, no_arguments, required_key};
-ghost use Rattle.negotiate_lines.specs.Wrongs.{Judges, WrongArguments, WrongStep, WrongTerm};
+ghost use Rattle.std.specs.Cow.{cow_str_bytes};
+ghost use Rattle.std.specs.Result.{result_map_both};
+ghost use Rattle.negotiate_lines.specs.Leaves.{IsLeaf};
+ghost use Rattle.negotiate_lines.specs.Wrongs.{IsBroken, IsKeyAnswer, IsPairAnswer, Judges};
+ghost use Rattle.negotiate_lines.specs.Wrongs.{WrongArguments, WrongStep, WrongTerm};
 
 use crate::call_term::{CallTerm, call_term};
+use crate::leaf::{Form, text_of_leaf};
 use crate::line::admitted;
 use crate::term::{TermError, next_term};
 use crate::vocabulary::HasVocabulary;
@@ -18,6 +23,7 @@ use iceoryx2_attribute::attribute::AttributeVerifier;
 use iceoryx2_commands::command::How;
 use iceoryx2_description::time::{ClockFault, Time};
 use std::alloc::Global;
+use std::borrow::CowStr;
 use std::marker::Model;
 
 /// The settings of a call, what it requires, and what the clock gives it.
@@ -68,9 +74,14 @@ impl<S: Drop> CallArguments<S> {
 
     /// What they are after what a term means, or what is wrong where that can't be followed: a pair or a key isn't
     /// taken where its length is out of range, and where it is one past 64.
-    fn judge<'a>(&mut self, instruction: CallTerm<'a, S>) -> Result<(), Flaw<'a>>
-        ensures { Judges (Follows self.old (instruction_of instruction.entry))
-            (WrongStep self.old (instruction_of instruction.entry)) (in_place result self.new) }
+    fn judge<'a>(
+        &mut self,
+        alloc: Global,
+        form: Form,
+        instruction: CallTerm<'a, S>,
+    ) -> Result<(), Flaw<'a>>
+        ensures { Judges (Follows form self.old (instruction_of instruction.entry))
+            (WrongStep form self.old (instruction_of instruction.entry)) (in_place result self.new) }
     {
         match instruction {
             CallTerm::Setting(setting) => match self.settings.push(setting) {
@@ -81,34 +92,81 @@ impl<S: Drop> CallArguments<S> {
                 self.now = now;
                 Ok(())
             }
-            CallTerm::Attribute(key, value) => self.judge_pair(key, value),
-            CallTerm::RequiredKey(key) => self.judge_key(key),
+            CallTerm::Attribute(key, value) => self.judge_pair(alloc, form, key, value),
+            CallTerm::RequiredKey(key) => self.judge_key(alloc, form, key),
         }
     }
 
-    fn judge_pair<'a>(&mut self, key: &'a str, value: &'a str) -> Result<(), Flaw<'a>>
-        ensures { Judges (Follows self.old (attribute key.now value.now))
-            (WrongStep self.old (attribute key.now value.now)) (in_place result self.new) }
+    /// The same of a pair, of which these are the leaves.
+    fn judge_pair<'a>(
+        &mut self,
+        alloc: Global,
+        form: Form,
+        key: &'a str,
+        value: &'a str,
+    ) -> Result<(), Flaw<'a>>
+        ensures { Judges (Follows form self.old (attribute key.now value.now))
+            (WrongStep form self.old (attribute key.now value.now)) (in_place result self.new) }
     {
-        match self.attributes.require(key, value) {
-            Ok(()) => Ok(()),
-            Err(AttributeError::OutOfMemory) => Err(Flaw::OutOfMemory),
-            Err(KeyLength) => Err(Flaw::Wrong(Wrong::KeyLength(key))),
-            Err(ValueLength) => Err(Flaw::Wrong(Wrong::ValueLength(value))),
-            Err(TooMany) => Err(Flaw::Wrong(Wrong::TooManyPairs(key, value))),
-        }
+        let key_text = judge_leaf(alloc, form, key)?;
+        let value_text = judge_leaf(alloc, form, value)?;
+        let answer = self.attributes.require(&key_text, &value_text);
+        pair_answer(answer, key, value)
     }
 
-    fn judge_key<'a>(&mut self, key: &'a str) -> Result<(), Flaw<'a>>
-        ensures { Judges (Follows self.old (required_key key.now)) (WrongStep self.old (required_key key.now))
+    /// The same of a key that is required, of which this is the leaf.
+    fn judge_key<'a>(&mut self, alloc: Global, form: Form, key: &'a str) -> Result<(), Flaw<'a>>
+        ensures { Judges (Follows form self.old (required_key key.now)) (WrongStep form self.old (required_key key.now))
             (in_place result self.new) }
     {
-        match self.attributes.require_key(key) {
-            Ok(()) => Ok(()),
-            Err(AttributeError::OutOfMemory) => Err(Flaw::OutOfMemory),
-            Err(TooMany) => Err(Flaw::Wrong(Wrong::TooManyKeys(key))),
-            Err(_) => Err(Flaw::Wrong(Wrong::KeyLength(key))),
-        }
+        let key_text = judge_leaf(alloc, form, key)?;
+        let answer = self.attributes.require_key(&key_text);
+        key_answer(answer, key)
+    }
+}
+
+/// What is told where a pair of these leaves is put among others.
+fn pair_answer<'a>(
+    answer: Result<(), AttributeError>,
+    key: &'a str,
+    value: &'a str,
+) -> Result<(), Flaw<'a>>
+    ensures { IsPairAnswer answer key.now value.now result }
+{
+    match answer {
+        Ok(()) => Ok(()),
+        Err(AttributeError::OutOfMemory) => Err(Flaw::OutOfMemory),
+        Err(KeyLength) => Err(Flaw::Wrong(Wrong::KeyLength(key))),
+        Err(ValueLength) => Err(Flaw::Wrong(Wrong::ValueLength(value))),
+        Err(TooMany) => Err(Flaw::Wrong(Wrong::TooManyPairs(key, value))),
+    }
+}
+
+/// What is told where a key of this leaf is put among others.
+fn key_answer<'a>(answer: Result<(), AttributeError>, key: &'a str) -> Result<(), Flaw<'a>>
+    ensures { IsKeyAnswer answer key.now result }
+{
+    match answer {
+        Ok(()) => Ok(()),
+        Err(AttributeError::OutOfMemory) => Err(Flaw::OutOfMemory),
+        Err(TooMany) => Err(Flaw::Wrong(Wrong::TooManyKeys(key))),
+        Err(_) => Err(Flaw::Wrong(Wrong::KeyLength(key))),
+    }
+}
+
+/// The text of a leaf, or that it is broken.
+pub(crate) fn judge_leaf<'a>(
+    alloc: Global,
+    form: Form,
+    leaf: &'a str,
+) -> Result<CowStr<'a>, Flaw<'a>>
+    ensures { Judges (IsLeaf form leaf.now) (IsBroken leaf.now)
+        (result_map_both (λ text. cow_str_bytes text) (λ e. e) result) }
+{
+    match text_of_leaf(alloc, form, leaf) {
+        Ok(text) => Ok(text),
+        Err(TermError::Malformed) => Err(Flaw::Wrong(Wrong::BrokenLeaf(leaf))),
+        Err(TermError::OutOfMemory) => Err(Flaw::OutOfMemory),
     }
 }
 
@@ -116,16 +174,18 @@ impl<S: Drop> CallArguments<S> {
 /// for the settings, the pairs and the keys alone.
 pub(crate) fn judge_arguments<'a, V: HasVocabulary>(
     alloc: Global,
+    form: Form,
     how: How,
     text: &'a str,
 ) -> Result<CallArguments<V::Setter>, Flaw<'a>>
-    ensures { Judges (TakesTerms V.vocabulary (admitted_of V.vocabulary.has_clock how) no_arguments (terms_of text.now))
-        (WrongArguments V.vocabulary how (terms_of text.now)) result }
+    ensures { Judges
+        (TakesTerms form V.vocabulary (admitted_of V.vocabulary.has_clock how) no_arguments (terms_of text.now))
+        (WrongArguments form V.vocabulary how (terms_of text.now)) result }
 {
     let mut arguments = CallArguments::new(alloc);
     let mut rest = text;
     while let Some((term, after)) = next_term(rest) {
-        judge_term::<V>(alloc, how, &mut arguments, term)?;
+        judge_term::<V>(alloc, form, how, &mut arguments, term)?;
         rest = after;
     }
     Ok(arguments)
@@ -134,16 +194,17 @@ pub(crate) fn judge_arguments<'a, V: HasVocabulary>(
 /// What the arguments are after what a term means, or what is wrong with it.
 fn judge_term<'a, V: HasVocabulary>(
     alloc: Global,
+    form: Form,
     how: How,
     arguments: &mut CallArguments<V::Setter>,
     term: &'a str,
 ) -> Result<(), Flaw<'a>>
-    ensures { Judges (TakesTerm V.vocabulary (admitted_of V.vocabulary.has_clock how) arguments.old term.now)
-        (WrongTerm V.vocabulary how arguments.old term.now) (in_place result arguments.new) }
+    ensures { Judges (TakesTerm form V.vocabulary (admitted_of V.vocabulary.has_clock how) arguments.old term.now)
+        (WrongTerm form V.vocabulary how arguments.old term.now) (in_place result arguments.new) }
 {
-    match call_term::<V>(alloc, admitted::<V>(how), term) {
-        Ok(instruction) => arguments.judge(instruction),
+    match call_term::<V>(alloc, form, admitted::<V>(how), term) {
+        Ok(instruction) => arguments.judge(alloc, form, instruction),
         Err(TermError::OutOfMemory) => Err(Flaw::OutOfMemory),
-        Err(TermError::Malformed) => Err(Flaw::Wrong(wrong_term::<V>(how, term))),
+        Err(TermError::Malformed) => Err(Flaw::Wrong(wrong_term::<V>(form, how, term))),
     }
 }

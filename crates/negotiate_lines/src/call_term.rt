@@ -2,6 +2,7 @@
 
 ghost use Rattle.negotiate_lines.specs.CallTerms.{IsRead, IsValueOf, IsInstructionOf};
 
+use crate::leaf::Form;
 use crate::term::{TermError, around};
 use crate::value::time_or_fault;
 use crate::vocabulary::{Admitted, HasVocabulary};
@@ -15,9 +16,9 @@ pub(crate) enum CallTerm<'a, S> {
     Setting(S),
     /// What the clock gives.
     Now(Result<Time, ClockFault>),
-    /// A key and a value.
+    /// The leaves of a key and a value.
     Attribute(&'a str, &'a str),
-    /// A key.
+    /// The leaf of a key.
     RequiredKey(&'a str),
 }
 
@@ -26,13 +27,14 @@ pub(crate) enum CallTerm<'a, S> {
 /// the call.
 pub(crate) fn call_term<'a, V: HasVocabulary>(
     alloc: Global,
+    form: Form,
     admitted: Admitted,
     term: &'a str,
 ) -> Result<CallTerm<'a, V::Setter>, TermError>
-    ensures { IsRead (IsInstructionOf V.vocabulary admitted term.now) result }
+    ensures { IsRead (IsInstructionOf form V.vocabulary admitted term.now) result }
 {
     match around(term, '=') {
-        Some((name, value)) => value_of::<V>(alloc, admitted, name, value),
+        Some((name, value)) => value_of::<V>(alloc, form, admitted, name, value),
         None => Err(TermError::Malformed),
     }
 }
@@ -40,11 +42,12 @@ pub(crate) fn call_term<'a, V: HasVocabulary>(
 /// What a value means behind a name.
 fn value_of<'a, V: HasVocabulary>(
     alloc: Global,
+    form: Form,
     admitted: Admitted,
     name: &str,
     value: &'a str,
 ) -> Result<CallTerm<'a, V::Setter>, TermError>
-    ensures { IsRead (IsValueOf V.vocabulary.rows admitted name.now value.now) result }
+    ensures { IsRead (IsValueOf form V.vocabulary.rows admitted name.now value.now) result }
 {
     match name {
         "now" if admitted.now => Ok(CallTerm::Now(time_or_fault(value)?)),
@@ -54,6 +57,6 @@ fn value_of<'a, V: HasVocabulary>(
         },
         "require_key" if admitted.require_key => Ok(CallTerm::RequiredKey(value)),
         "now" | "require_key" => Err(TermError::Malformed),
-        _ => Ok(CallTerm::Setting(V::setter(alloc, name, value)?)),
+        _ => Ok(CallTerm::Setting(V::setter(alloc, form, name, value)?)),
     }
 }

@@ -1,4 +1,4 @@
-//! What a line of the program `negotiate` is: a command, or what is wrong with it.
+//! What a line is: a command, or what is wrong with it; and what a line of an escaped session asks.
 //!
 //! `line::parse`: a line is blank, the command that its terms are, or neither, and then this is the first thing that is
 //! wrong, from left to right, exactly by the tables (`IsLine`, `IsWrong`); where memory runs out nothing is read. Terms
@@ -6,6 +6,11 @@
 //! its limit; values, times, truth values, alignments and types are exact (`Finds`, `Reads`). A setting is named by one
 //! row of its pattern's table (`IsSettingOf`), and no name stands in two rows (`IsUnambiguous`). `line::without_end`
 //! takes one `\n` away, and one `\r` before it.
+//!
+//! Names, keys, values of keys and names of types are leaves: as they are, or with `%XX` for a byte (`Form`, `IsLeaf`).
+//! `line::parse_in` reads a line of either form (`IsLineIn`). A text is written as a leaf that stands for it and parts
+//! nothing (`leaf::laws_of_leaves`). `question::parse_request` reads a line of an escaped session: a question by the row
+//! of its first word, or any other line (`IsRequest`).
 //!
 //! `wrong_text::wrong_text` puts what is wrong into words (`IsWrongText`). A word that is offered is the first of the
 //! nearest that could stand there; where none is offered none is near (`Suggests`). A word of the line has no control
@@ -15,8 +20,10 @@
 mod arguments;
 mod call_term;
 pub mod escape;
+pub mod leaf;
 pub mod line;
 mod nearest;
+pub mod question;
 mod setting_terms;
 mod term;
 mod type_term;

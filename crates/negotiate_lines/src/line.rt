@@ -7,11 +7,12 @@ ghost use Rattle.iceoryx2_commands.specs.Commands.{slot_count};
 ghost use Rattle.negotiate_lines.specs.Terms.{Finds, IsNumber, terms_of};
 ghost use Rattle.negotiate_lines.specs.Values.{IsNatural};
 ghost use Rattle.negotiate_lines.specs.Commands.{IsCommandOf, IsNamedCallOf, admitted_of, as_named, how_term};
-ghost use Rattle.negotiate_lines.specs.Lines.{AreLine, IsLine, without_end_of};
+ghost use Rattle.negotiate_lines.specs.Lines.{AreLine, IsLine, IsLineIn, without_end_of};
 ghost use Rattle.negotiate_lines.specs.Wrongs.{Judges, JudgesFirst, NamesCall, WrongCall, WrongHow, WrongNode};
 ghost use Rattle.negotiate_lines.specs.Wrongs.{WrongSlot, WrongTerms};
 
-use crate::arguments::{CallArguments, judge_arguments};
+use crate::arguments::{CallArguments, judge_arguments, judge_leaf};
+use crate::leaf::Form;
 use crate::setting_terms::{EventTerms, PublishSubscribeTerms, RequestResponseTerms};
 use crate::term::{TermError, next_term, number};
 use crate::vocabulary::{Admitted, HasVocabulary};
@@ -45,27 +46,34 @@ pub fn without_end(line: &[u8]) -> &[u8]
     }
 }
 
-/// Reads a line, without its end. Its terms are separated by one or more spaces.
+/// Reads a line, without its end. Its terms are separated by one or more spaces, and its leaves are as they are.
 ///
 /// Its terms are read one by one, and none is kept. Memory is taken for a service's name and for
 /// what the terms behind it mean. `AllocError` where there is none.
 pub fn parse<'a>(alloc: Global, line: &'a [u8]) -> Result<Line<'a>, AllocError>
     ensures { IfOk result (IsLine line.now) }
 {
+    parse_in(alloc, Form::Plain, line)
+}
+
+/// The same of a line whose leaves are written so. `AllocError` also where there is no memory for a leaf with an escape.
+pub fn parse_in<'a>(alloc: Global, form: Form, line: &'a [u8]) -> Result<Line<'a>, AllocError>
+    ensures { IfOk result (IsLineIn form line.now) }
+{
     match std::str::from_utf8(line) {
-        Ok(text) => parse_text(alloc, text),
+        Ok(text) => parse_text(alloc, form, text),
         Err(_) => Ok(Line::NotACommand(Wrong::NotUtf8)),
     }
 }
 
 /// What a text is.
-fn parse_text<'a>(alloc: Global, text: &'a str) -> Result<Line<'a>, AllocError>
-    ensures { IfOk result (AreLine (terms_of text.now)) }
+fn parse_text<'a>(alloc: Global, form: Form, text: &'a str) -> Result<Line<'a>, AllocError>
+    ensures { IfOk result (AreLine form (terms_of text.now)) }
 {
     let Some((first, others)) = next_term(text) else {
         return Ok(Line::Blank);
     };
-    match judge(alloc, first, others) {
+    match judge(alloc, form, first, others) {
         Ok(command) => Ok(Line::Command(command)),
         Err(Flaw::Wrong(wrong)) => Ok(Line::NotACommand(wrong)),
         Err(Flaw::OutOfMemory) => Err(AllocError),
@@ -73,20 +81,25 @@ fn parse_text<'a>(alloc: Global, text: &'a str) -> Result<Line<'a>, AllocError>
 }
 
 /// The command that a term and those behind it are, or what is wrong.
-fn judge<'a>(alloc: Global, first: &'a str, others: &'a str) -> Result<Command, Flaw<'a>>
-    ensures { Judges (IsCommandOf (first.now ∷ terms_of others.now))
-        (WrongTerms (first.now ∷ terms_of others.now)) result }
+fn judge<'a>(
+    alloc: Global,
+    form: Form,
+    first: &'a str,
+    others: &'a str,
+) -> Result<Command, Flaw<'a>>
+    ensures { Judges (IsCommandOf form (first.now ∷ terms_of others.now))
+        (WrongTerms form (first.now ∷ terms_of others.now)) result }
 {
     match first {
-        "list" => judge_list(others),
-        "close" => judge_close(others),
-        "event" => Ok(judge_call::<EventTerms>(alloc, others)?.into_command(Settings::Event)),
+        "list" => judge_list(form, others),
+        "close" => judge_close(form, others),
+        "event" => Ok(judge_call::<EventTerms>(alloc, form, others)?.into_command(Settings::Event)),
         "pubsub" => {
-            let call = judge_call::<PublishSubscribeTerms>(alloc, others)?;
+            let call = judge_call::<PublishSubscribeTerms>(alloc, form, others)?;
             Ok(call.into_command(Settings::PublishSubscribe))
         }
         "rr" => {
-            let call = judge_call::<RequestResponseTerms>(alloc, others)?;
+            let call = judge_call::<RequestResponseTerms>(alloc, form, others)?;
             Ok(call.into_command(Settings::RequestResponse))
         }
         _ => Err(Flaw::Wrong(Wrong::NoSuchCommand(first))),
@@ -94,9 +107,9 @@ fn judge<'a>(alloc: Global, first: &'a str, others: &'a str) -> Result<Command, 
 }
 
 /// What the term `list` means before others.
-fn judge_list<'a>(others: &'a str) -> Result<Command, Flaw<'a>>
-    ensures { Judges (IsCommandOf (codes "list" ∷ terms_of others.now))
-        (WrongTerms (codes "list" ∷ terms_of others.now)) result }
+fn judge_list<'a>(form: Form, others: &'a str) -> Result<Command, Flaw<'a>>
+    ensures { Judges (IsCommandOf form (codes "list" ∷ terms_of others.now))
+        (WrongTerms form (codes "list" ∷ terms_of others.now)) result }
 {
     match next_term(others) {
         None => Ok(Command::List),
@@ -105,9 +118,9 @@ fn judge_list<'a>(others: &'a str) -> Result<Command, Flaw<'a>>
 }
 
 /// What the term `close` means before others.
-fn judge_close<'a>(others: &'a str) -> Result<Command, Flaw<'a>>
-    ensures { Judges (IsCommandOf (codes "close" ∷ terms_of others.now))
-        (WrongTerms (codes "close" ∷ terms_of others.now)) result }
+fn judge_close<'a>(form: Form, others: &'a str) -> Result<Command, Flaw<'a>>
+    ensures { Judges (IsCommandOf form (codes "close" ∷ terms_of others.now))
+        (WrongTerms form (codes "close" ∷ terms_of others.now)) result }
 {
     let (slot, others) = slot_in(others)?;
     match next_term(others) {
@@ -174,10 +187,11 @@ fn node_in<'a>(text: &'a str) -> Result<(u64, &'a str), Flaw<'a>>
 /// What a pattern's term means before others.
 fn judge_call<'a, V: HasVocabulary>(
     alloc: Global,
+    form: Form,
     others: &'a str,
 ) -> Result<NamedCall<V::Setter>, Flaw<'a>>
-    ensures { Judges (IsNamedCallOf V.vocabulary (V.vocabulary.pattern ∷ terms_of others.now))
-        (WrongCall V.vocabulary (terms_of others.now)) result }
+    ensures { Judges (IsNamedCallOf form V.vocabulary (V.vocabulary.pattern ∷ terms_of others.now))
+        (WrongCall form V.vocabulary (terms_of others.now)) result }
 {
     let (how, others) = how_in(others)?;
     let (node, others) = node_in(others)?;
@@ -185,12 +199,13 @@ fn judge_call<'a, V: HasVocabulary>(
     let Some((term, others)) = next_term(others) else {
         return Err(Flaw::Wrong(Wrong::NoName));
     };
-    let name = match ServiceName::new(alloc, term) {
+    let text = judge_leaf(alloc, form, term)?;
+    let name = match ServiceName::new(alloc, &text) {
         Ok(name) => name,
         Err(ServiceNameError::Length) => return Err(Flaw::Wrong(Wrong::NameLength(term))),
         Err(ServiceNameError::OutOfMemory) => return Err(Flaw::OutOfMemory),
     };
-    let arguments = judge_arguments::<V>(alloc, how, others)?;
+    let arguments = judge_arguments::<V>(alloc, form, how, others)?;
     Ok(NamedCall {
         how,
         node,

@@ -4,6 +4,7 @@ ghost use Rattle.std.specs.Prelude.{refl};
 ghost use Rattle.negotiate_lines.specs.SettingTerms.{event_vocabulary, publish_subscribe_vocabulary};
 ghost use Rattle.negotiate_lines.specs.SettingTerms.{request_response_vocabulary};
 
+use crate::leaf::Form;
 use crate::term::{TermError, number};
 use crate::type_term::{alignment, type_detail};
 use crate::value::{duration_or_none, event_or_none, truth_value};
@@ -42,7 +43,12 @@ impl HasVocabulary for EventTerms {
         true
     }
 
-    fn setter(_alloc: Global, name: &str, value: &str) -> Result<EventSetter, TermError> {
+    fn setter(
+        _alloc: Global,
+        _form: Form,
+        name: &str,
+        value: &str,
+    ) -> Result<EventSetter, TermError> {
         use EventSetter as Setter;
         match name {
             "max_notifiers" => Ok(Setter::MaxNotifiers(number(value)?)),
@@ -93,7 +99,12 @@ impl HasVocabulary for PublishSubscribeTerms {
         false
     }
 
-    fn setter(alloc: Global, name: &str, value: &str) -> Result<PublishSubscribeSetter, TermError> {
+    fn setter(
+        alloc: Global,
+        form: Form,
+        name: &str,
+        value: &str,
+    ) -> Result<PublishSubscribeSetter, TermError> {
         use PublishSubscribeSetter as Setter;
         match name {
             "max_publishers" => Ok(Setter::MaxPublishers(number(value)?)),
@@ -105,8 +116,8 @@ impl HasVocabulary for PublishSubscribeTerms {
             )?)),
             "enable_safe_overflow" => Ok(Setter::EnableSafeOverflow(truth_value(value)?)),
             "max_nodes" => Ok(Setter::MaxNodes(number(value)?)),
-            "payload" => Ok(Setter::PayloadType(type_detail(alloc, value)?)),
-            "user_header" => Ok(Setter::UserHeaderType(type_detail(alloc, value)?)),
+            "payload" => Ok(Setter::PayloadType(type_detail(alloc, form, value)?)),
+            "user_header" => Ok(Setter::UserHeaderType(type_detail(alloc, form, value)?)),
             "payload_alignment" => Ok(Setter::PayloadAlignment(alignment(value)?)),
             _ => Err(TermError::Malformed),
         }
@@ -154,7 +165,12 @@ impl HasVocabulary for RequestResponseTerms {
         false
     }
 
-    fn setter(alloc: Global, name: &str, value: &str) -> Result<RequestResponseSetter, TermError> {
+    fn setter(
+        alloc: Global,
+        form: Form,
+        name: &str,
+        value: &str,
+    ) -> Result<RequestResponseSetter, TermError> {
         use RequestResponseSetter as Setter;
         match name {
             "enable_safe_overflow_for_requests" => Ok(Setter::EnableSafeOverflowForRequests(
@@ -177,11 +193,11 @@ impl HasVocabulary for RequestResponseTerms {
             "max_servers" => Ok(Setter::MaxServers(number(value)?)),
             "max_clients" => Ok(Setter::MaxClients(number(value)?)),
             "max_nodes" => Ok(Setter::MaxNodes(number(value)?)),
-            "request_payload" => Ok(Setter::RequestPayloadType(type_detail(alloc, value)?)),
-            "request_header" => Ok(Setter::RequestHeaderType(type_detail(alloc, value)?)),
+            "request_payload" => Ok(Setter::RequestPayloadType(type_detail(alloc, form, value)?)),
+            "request_header" => Ok(Setter::RequestHeaderType(type_detail(alloc, form, value)?)),
             "request_payload_alignment" => Ok(Setter::RequestPayloadAlignment(alignment(value)?)),
-            "response_payload" => Ok(Setter::ResponsePayloadType(type_detail(alloc, value)?)),
-            "response_header" => Ok(Setter::ResponseHeaderType(type_detail(alloc, value)?)),
+            "response_payload" => Ok(Setter::ResponsePayloadType(type_detail(alloc, form, value)?)),
+            "response_header" => Ok(Setter::ResponseHeaderType(type_detail(alloc, form, value)?)),
             "response_payload_alignment" => Ok(Setter::ResponsePayloadAlignment(alignment(value)?)),
             _ => Err(TermError::Malformed),
         }

@@ -4,6 +4,7 @@ ghost use Rattle.std.specs.Prelude.{ℕ, List, MatchOption};
 ghost use Rattle.negotiate_lines.specs.Terms.{Finds, Reads};
 ghost use Rattle.negotiate_lines.specs.Values.{AreParts, IsAlignmentTerm, IsDetailTerm, IsVariantTerm};
 
+use crate::leaf::{Form, text_of_leaf};
 use crate::term::{TermError, around, number};
 use iceoryx2_types::types::{Alignment, TypeDetail, TypeDetailError, TypeVariant};
 use std::alloc::Global;
@@ -48,9 +49,9 @@ fn parts(value: &str) -> Option<(&str, &str, &str, &str)>
 }
 
 /// What is known of a type: `fixed` or `dynamic`, its name, its size and its alignment in bytes, with
-/// three commas between them. `AllocError` where the copy of the name finds no memory.
-pub fn type_detail(alloc: Global, value: &str) -> Result<TypeDetail, TermError>
-    ensures { Reads (IsDetailTerm value.now) result }
+/// three commas between them. The name is a leaf. `OutOfMemory` where its text or its copy finds no memory.
+pub fn type_detail(alloc: Global, form: Form, value: &str) -> Result<TypeDetail, TermError>
+    ensures { Reads (IsDetailTerm form value.now) result }
 {
     let Some((variant, name, size, alignment)) = parts(value) else {
         return Err(TermError::Malformed);
@@ -58,7 +59,8 @@ pub fn type_detail(alloc: Global, value: &str) -> Result<TypeDetail, TermError>
     let variant = type_variant(variant)?;
     let size = number(size)?;
     let alignment = number(alignment)?;
-    match TypeDetail::new(alloc, variant, name, size, alignment) {
+    let name = text_of_leaf(alloc, form, name)?;
+    match TypeDetail::new(alloc, variant, &name, size, alignment) {
         Ok(detail) => Ok(detail),
         Err(error) => match error {
             TypeDetailError::NameLength => Err(TermError::Malformed),

@@ -4,6 +4,7 @@ ghost use Rattle.std.specs.Prelude.{◌≡◌};
 ghost use Rattle.negotiate_lines.specs.Terms.{Reads};
 ghost use Rattle.negotiate_lines.specs.Vocabulary.{IsUnambiguous, IsSettingOf, Vocabulary, kinds_of, table_of};
 
+use crate::leaf::Form;
 use crate::term::TermError;
 use std::alloc::Global;
 
@@ -53,9 +54,9 @@ pub trait HasVocabulary {
     fn has_clock() -> bool
         ensures { result ≡ vocabulary.has_clock };
 
-    /// The setter of the setting of this name, with this value.
-    fn setter(alloc: Global, name: &str, value: &str) -> Result<Self::Setter, TermError>
-        ensures { Reads (IsSettingOf vocabulary.rows name.now value.now) result };
+    /// The setter of the setting of this name, with this value in a line of this form.
+    fn setter(alloc: Global, form: Form, name: &str, value: &str) -> Result<Self::Setter, TermError>
+        ensures { Reads (IsSettingOf form vocabulary.rows name.now value.now) result };
 
     /// Each term has one meaning.
     ghost is_unambiguous: { IsUnambiguous vocabulary };

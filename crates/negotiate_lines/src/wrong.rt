@@ -30,6 +30,8 @@ pub enum Wrong<'a> {
     SlotTooGreat(&'a str),
     /// A call with no name.
     NoName,
+    /// A leaf in which an escape is broken, or of which the bytes aren't UTF-8.
+    BrokenLeaf(&'a str),
     /// A name whose length is out of range.
     NameLength(&'a str),
     /// A term behind the name without `=`.

@@ -6,6 +6,7 @@ ghost use Rattle.negotiate_lines.specs.Commands.{admitted_of};
 ghost use Rattle.negotiate_lines.specs.Vocabulary.{row_of, table_of};
 ghost use Rattle.negotiate_lines.specs.Wrongs.{WrongText, WrongValue};
 
+use crate::leaf::Form;
 use crate::line::admitted;
 use crate::term::around;
 use crate::vocabulary::{HasVocabulary, Kind};
@@ -13,25 +14,30 @@ use crate::wrong::Wrong;
 use iceoryx2_commands::command::How;
 
 /// What is wrong with a term that means nothing.
-pub(crate) fn wrong_term<'a, V: HasVocabulary>(how: How, term: &'a str) -> Wrong<'a>
+pub(crate) fn wrong_term<'a, V: HasVocabulary>(form: Form, how: How, term: &'a str) -> Wrong<'a>
     requires { (instruction : Instruction V.Setter)
-        → IsInstructionOf V.vocabulary (admitted_of V.vocabulary.has_clock how) term.now instruction → ⊥ }
-    ensures { WrongText V.vocabulary how term.now result }
+        → IsInstructionOf form V.vocabulary (admitted_of V.vocabulary.has_clock how) term.now instruction → ⊥ }
+    ensures { WrongText form V.vocabulary how term.now result }
 {
     match around(term, '=') {
-        Some((name, value)) => wrong_value::<V>(how, name, value),
+        Some((name, value)) => wrong_value::<V>(form, how, name, value),
         None => Wrong::NoEqualsSign(term),
     }
 }
 
 /// What is wrong with a value that means nothing behind a name.
-fn wrong_value<'a, V: HasVocabulary>(how: How, name: &'a str, value: &'a str) -> Wrong<'a>
+fn wrong_value<'a, V: HasVocabulary>(
+    form: Form,
+    how: How,
+    name: &'a str,
+    value: &'a str,
+) -> Wrong<'a>
     requires { (instruction : Instruction V.Setter)
-        → IsValueOf V.vocabulary.rows (admitted_of V.vocabulary.has_clock how) name.now value.now instruction → ⊥ }
-    ensures { WrongValue V.vocabulary how name.now value.now result }
+        → IsValueOf form V.vocabulary.rows (admitted_of V.vocabulary.has_clock how) name.now value.now instruction → ⊥ }
+    ensures { WrongValue form V.vocabulary how name.now value.now result }
 {
     match name {
-        "now" => wrong_now::<V>(how, value),
+        "now" => wrong_now::<V>(form, how, value),
         "attribute" => Wrong::NoColon(value),
         "require_key" => Wrong::KeyWithCreate,
         _ => match kind_in(V::settings(), name) {
@@ -47,10 +53,10 @@ fn wrong_value<'a, V: HasVocabulary>(how: How, name: &'a str, value: &'a str) ->
 }
 
 /// What is wrong with `now`, where its value means nothing with such a call.
-fn wrong_now<'a, V: HasVocabulary>(how: How, value: &'a str) -> Wrong<'a>
-    requires { (instruction : Instruction V.Setter) → IsValueOf V.vocabulary.rows
+fn wrong_now<'a, V: HasVocabulary>(form: Form, how: How, value: &'a str) -> Wrong<'a>
+    requires { (instruction : Instruction V.Setter) → IsValueOf form V.vocabulary.rows
         (admitted_of V.vocabulary.has_clock how) (codes "now") value.now instruction → ⊥ }
-    ensures { WrongValue V.vocabulary how (codes "now") value.now result }
+    ensures { WrongValue form V.vocabulary how (codes "now") value.now result }
 {
     if !V::has_clock() {
         return Wrong::NowOfPattern(V::pattern());

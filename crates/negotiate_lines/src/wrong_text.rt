@@ -51,6 +51,12 @@ fn write_flaw(wrong: Wrong<'_>, text: &mut String) -> Result<(), AllocError>
         Wrong::NoSlotNumber(term) => write_of("slot ", term, ": a number from 0 to 63", text),
         Wrong::SlotTooGreat(term) => write_of("slot ", term, ": at most 63", text),
         Wrong::NoName => text.push_str("no name"),
+        Wrong::BrokenLeaf(term) => write_of(
+            "",
+            term,
+            ": a % stands before two digits of a byte of UTF-8",
+            text,
+        ),
         Wrong::NameLength(term) => write_of("name ", term, ": 1 to 255 bytes", text),
         Wrong::NoEqualsSign(term) => { write_of("", term, ": no =; it is <setting>=<value>", text) }
         Wrong::NoSuchSetting {

@@ -12,7 +12,7 @@ use Rattle.negotiate_lines.proofs.arguments.judge_arguments.Goals as goal
 pub loop-term-init : goal.loop-term-init
 loop-term-init g c =
     let v = g.V.HasVocabulary.vocabulary in
-    let Takes = TakesTerms v (admitted_of v.has_clock c.args.how) in
+    let Takes = TakesTerms c.args.form v (admitted_of v.has_clock c.args.how) in
     record {
       text = search rules;
       reaches = λ new run. subst (λ (a : Arguments g.row.V-Setter.Denot). Takes a (terms_of c.args.text.now) new) c.new-arguments.ensures run;
@@ -29,8 +29,8 @@ loop-term-preserved g c =
     let term = c.in-Some.term.now in
     record {
       text = search rules;
-      reaches = λ new run. c.loop-term.invariant.reaches new (step_before v admitted c.loop-term.arguments _ _ _ c.in-Some.ensures.term c.judge_term.new.arguments new taken.0 taken.1 taken.2 run);
-      only = λ new run. step_behind v admitted c.loop-term.arguments _ _ _ c.in-Some.ensures.term c.judge_term.new.arguments new taken.0 taken.1 taken.2 (c.loop-term.invariant.only new run);
+      reaches = λ new run. c.loop-term.invariant.reaches new (step_before c.args.form v admitted c.loop-term.arguments _ _ _ c.in-Some.ensures.term c.judge_term.new.arguments new taken.0 taken.1 taken.2 run);
+      only = λ new run. step_behind c.args.form v admitted c.loop-term.arguments _ _ _ c.in-Some.ensures.term c.judge_term.new.arguments new taken.0 taken.1 taken.2 (c.loop-term.invariant.only new run);
       so_far = (
         so_far.0 ++ term ∷ [],
         so_far.1 ∙ ap (λ (ts : List (List ℕ)). so_far.0 ++ ts) c.in-Some.ensures.term ∙ sym (append_assoc so_far.0 (term ∷ []) (terms_of c.in-Some.after.now)),
@@ -43,10 +43,10 @@ returns-in_err-judge_term g c =
     let v = g.V.HasVocabulary.vocabulary in
     let admitted = admitted_of v.has_clock c.args.how in
     let so_far = c.loop-term.invariant.so_far in
-    passed (TakesTerm v admitted c.loop-term.arguments c.in-Some.term.now) (TakesTerms v admitted no_arguments (terms_of c.args.text.now))
-    (WrongTerm v c.args.how c.loop-term.arguments c.in-Some.term.now) (WrongArguments v c.args.how (terms_of c.args.text.now)) _ _
+    passed (TakesTerm c.args.form v admitted c.loop-term.arguments c.in-Some.term.now) (TakesTerms c.args.form v admitted no_arguments (terms_of c.args.text.now))
+    (WrongTerm c.args.form v c.args.how c.loop-term.arguments c.in-Some.term.now) (WrongArguments c.args.form v c.args.how (terms_of c.args.text.now)) _ _
     c.from_residual.ensures.1 c.in_err-judge_term.ensures
-    (λ none new run. cannot_be_taken v admitted c.loop-term.arguments _ _ _ c.in-Some.ensures.term none new (c.loop-term.invariant.only new run))
+    (λ none new run. cannot_be_taken c.args.form v admitted c.loop-term.arguments _ _ _ c.in-Some.ensures.term none new (c.loop-term.invariant.only new run))
     (λ w is. record {
       front = so_far.0;
       term = c.in-Some.term.now;
@@ -60,4 +60,4 @@ returns-in_err-judge_term g c =
 pub returns : goal.returns
 returns g c =
     c.loop-term.invariant.reaches c.loop-term.arguments
-    (all_taken g.V.HasVocabulary.vocabulary (admitted_of g.V.HasVocabulary.vocabulary.has_clock c.args.how) c.loop-term.arguments _ c.in_default.ensures.term)
+    (all_taken c.args.form g.V.HasVocabulary.vocabulary (admitted_of g.V.HasVocabulary.vocabulary.has_clock c.args.how) c.loop-term.arguments _ c.in_default.ensures.term)

@@ -12,9 +12,9 @@ invariant-loop-term g l =
     let admitted = admitted_of v.has_clock l.how in
     record {
       text : shadow (Utf8 l.rest);
-      reaches : (new : Arguments g.row.V-Setter.Denot) → TakesTerms v admitted l.arguments (terms_of l.rest) new → TakesTerms v admitted no_arguments (terms_of l.text) new;
-      only : (new : Arguments g.row.V-Setter.Denot) → TakesTerms v admitted no_arguments (terms_of l.text) new → TakesTerms v admitted l.arguments (terms_of l.rest) new;
-      so_far : (front : List (List ℕ)) × (terms_of l.text ≡ front ++ terms_of l.rest) × TakesTerms v admitted no_arguments front l.arguments;
+      reaches : (new : Arguments g.row.V-Setter.Denot) → TakesTerms l.form v admitted l.arguments (terms_of l.rest) new → TakesTerms l.form v admitted no_arguments (terms_of l.text) new;
+      only : (new : Arguments g.row.V-Setter.Denot) → TakesTerms l.form v admitted no_arguments (terms_of l.text) new → TakesTerms l.form v admitted l.arguments (terms_of l.rest) new;
+      so_far : (front : List (List ℕ)) × (terms_of l.text ≡ front ++ terms_of l.rest) × TakesTerms l.form v admitted no_arguments front l.arguments;
     }
 
 abbrev pub decreases-loop-term : goal.decreases-loop-term

@@ -12,27 +12,27 @@ pub returns-in_err-judge_call-in-event : goal.returns-in_err-judge_call-in-event
 returns-in_err-judge_call-in-event c =
     let first = c.args.first.now in
     let terms = terms_of c.args.others.now in
-    passed (IsNamedCallOf event_vocabulary (codes "event" ∷ terms)) (IsCommandOf (first ∷ terms)) (WrongCall event_vocabulary terms) (WrongTerms (first ∷ terms)) _ _
+    passed (IsNamedCallOf c.args.form event_vocabulary (codes "event" ∷ terms)) (IsCommandOf c.args.form (first ∷ terms)) (WrongCall c.args.form event_vocabulary terms) (WrongTerms c.args.form (first ∷ terms)) _ _
     c.from_residual.ensures.1 c.in_err-judge_call-in-event.ensures
-    (λ none some_command is_such. let call = only_event terms some_command (subst (λ t. IsCommandOf (t ∷ terms) some_command) c.in-event.is is_such) in none call.0 call.1)
+    (λ none some_command is_such. let call = only_event c.args.form terms some_command (subst (λ t. IsCommandOf c.args.form (t ∷ terms) some_command) c.in-event.is is_such) in none call.0 call.1)
     (λ w is. event terms (ap (λ t. t ∷ terms) c.in-event.is) is)
 
 pub returns-in_err-call-in-pubsub : goal.returns-in_err-call-in-pubsub
 returns-in_err-call-in-pubsub c =
     let first = c.args.first.now in
     let terms = terms_of c.args.others.now in
-    passed (IsNamedCallOf publish_subscribe_vocabulary (codes "pubsub" ∷ terms)) (IsCommandOf (first ∷ terms)) (WrongCall publish_subscribe_vocabulary terms) (WrongTerms (first ∷ terms)) _ _
+    passed (IsNamedCallOf c.args.form publish_subscribe_vocabulary (codes "pubsub" ∷ terms)) (IsCommandOf c.args.form (first ∷ terms)) (WrongCall c.args.form publish_subscribe_vocabulary terms) (WrongTerms c.args.form (first ∷ terms)) _ _
     c.from_residual-in_err-call-in-pubsub.ensures.1 c.in_err-call-in-pubsub.ensures
-    (λ none some_command is_such. let call = only_samples terms some_command (subst (λ t. IsCommandOf (t ∷ terms) some_command) c.in-pubsub.is is_such) in none call.0 call.1)
+    (λ none some_command is_such. let call = only_samples c.args.form terms some_command (subst (λ t. IsCommandOf c.args.form (t ∷ terms) some_command) c.in-pubsub.is is_such) in none call.0 call.1)
     (λ w is. publish_subscribe terms (ap (λ t. t ∷ terms) c.in-pubsub.is) is)
 
 pub returns-in_err-call-in-rr : goal.returns-in_err-call-in-rr
 returns-in_err-call-in-rr c =
     let first = c.args.first.now in
     let terms = terms_of c.args.others.now in
-    passed (IsNamedCallOf request_response_vocabulary (codes "rr" ∷ terms)) (IsCommandOf (first ∷ terms)) (WrongCall request_response_vocabulary terms) (WrongTerms (first ∷ terms)) _ _
+    passed (IsNamedCallOf c.args.form request_response_vocabulary (codes "rr" ∷ terms)) (IsCommandOf c.args.form (first ∷ terms)) (WrongCall c.args.form request_response_vocabulary terms) (WrongTerms c.args.form (first ∷ terms)) _ _
     c.from_residual-in_err-call-in-rr.ensures.1 c.in_err-call-in-rr.ensures
-    (λ none some_command is_such. let call = only_requests terms some_command (subst (λ t. IsCommandOf (t ∷ terms) some_command) c.in-rr.is is_such) in none call.0 call.1)
+    (λ none some_command is_such. let call = only_requests c.args.form terms some_command (subst (λ t. IsCommandOf c.args.form (t ∷ terms) some_command) c.in-rr.is is_such) in none call.0 call.1)
     (λ w is. request_response terms (ap (λ t. t ∷ terms) c.in-rr.is) is)
 
 pub returns-in_default : goal.returns-in_default
@@ -40,4 +40,4 @@ returns-in_default c =
     let first = c.args.first.now in
     let terms = terms_of c.args.others.now in
     let others : Each (λ word. first ≢ word) command_words = (c.in_default.not-list, (c.in_default.not-close, (c.in_default.not-event, (c.in_default.not-pubsub, (c.in_default.not-rr, tt))))) in
-    (no_command_word first terms others, no_command terms refl others)
+    (no_command_word c.args.form first terms others, no_command terms refl others)
