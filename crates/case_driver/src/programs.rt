@@ -27,7 +27,7 @@ fn answer_all(
 ) -> Result<Ending, ServeError> {
     let mut buffers = Buffers::new(alloc);
     for number in 1..MOST_LINES {
-        let ended = answer_next(number, wrong_lines, reader, page, session, &mut buffers)?;
+        let ended = answer_next(number, &wrong_lines, reader, page, session, &mut buffers)?;
         if let Some(ending) = ended {
             return Ok(ending);
         }

@@ -6,6 +6,7 @@ use Rattle.iceoryx2_commands.specs.declared.command.Settings.{Settings}
 use Rattle.iceoryx2_commands.specs.declared.command.Settings.TheVariants as settings
 use Rattle.negotiate_lines.specs.declared.line.Line.{Line}
 use Rattle.negotiate_lines.specs.declared.line.Line.TheVariants as line
+use Rattle.negotiate_lines.specs.declared.leaf.Form.TheVariants as form
 use Rattle.negotiate_lines.specs.Commands.{IsCallOf}
 use Rattle.negotiate_lines.specs.Lines.{IsLine}
 use Rattle.explain_serve.specs.Explained.{call_of, IsCallLine}
@@ -19,13 +20,13 @@ first_byte (term ∷ terms) = get_or term 0 0
 abbrev is_call_byte : ℕ → Bool
 is_call_byte n = nat_eq n 101 || (nat_eq n 112 || nat_eq n 114)
 
-begins_call : (of : Settings) (terms : List (List ℕ)) (call : Call) → IsCallOf of terms call → is_call_byte (first_byte terms) ≡ true
+begins_call : (of : Settings) (terms : List (List ℕ)) (call : Call) → IsCallOf form.Plain of terms call → is_call_byte (first_byte terms) ≡ true
 begins_call (settings.Event setters) terms call holds = ap (λ ts. is_call_byte (first_byte ts)) holds.are
 begins_call (settings.PublishSubscribe setters) terms call holds = ap (λ ts. is_call_byte (first_byte ts)) holds.are
 begins_call (settings.RequestResponse setters) terms call holds = ap (λ ts. is_call_byte (first_byte ts)) holds.are
 
 -- what begins otherwise is no call
-begins_otherwise : (terms others : List (List ℕ)) (call : Call) → terms ≡ others → is_call_byte (first_byte others) ≡ false → IsCallOf call.settings terms call → ⊥
+begins_otherwise : (terms others : List (List ℕ)) (call : Call) → terms ≡ others → is_call_byte (first_byte others) ≡ false → IsCallOf form.Plain call.settings terms call → ⊥
 begins_otherwise terms others call are other holds =
     let one : is_call_byte (first_byte terms) ≡ true = begins_call call.settings terms call holds in
     let two : is_call_byte (first_byte terms) ≡ false = ap (λ ts. is_call_byte (first_byte ts)) are ∙ other in

@@ -15,6 +15,9 @@ use Rattle.iceoryx2_commands.specs.declared.command.Refusal.{Refusal}
 use Rattle.iceoryx2_commands.specs.declared.command.Refusal.TheVariants as refusal
 use Rattle.iceoryx2_commands.specs.declared.command.Reply.{Reply}
 use Rattle.iceoryx2_commands.specs.declared.command.Reply.TheVariants as reply
+use Rattle.negotiate_lines.specs.declared.leaf.Form.{Form}
+use Rattle.negotiate_lines.specs.declared.leaf.Form.TheVariants as form
+use Rattle.negotiate_lines.specs.Leaves.{leaf_of}
 
 -- an error's text
 abbrev pub refusal_text : Refusal → List ℕ
@@ -44,9 +47,15 @@ pub record IsService (e : Entry) : Type 0 where
   pub form : IsForm description bytes
   pub beside : e.segment ≡ Some segment
 
+-- a service's name, as lines of this form have it
+abbrev pub name_in : Form → List ℕ → List ℕ
+name_in form.Plain name = name
+name_in form.Escaped name = leaf_of name
+
 -- a service by its pattern, its name and its hash
-abbrev pub who_it_is : List ℕ → Description → List ℕ
-who_it_is hash d = pattern_term d.pattern ++ (codes " " ++ (d.name ++ (codes " " ++ encode_lower hash)))
+abbrev pub who_it_is : Form → List ℕ → Description → List ℕ
+who_it_is form hash d =
+    pattern_term d.pattern ++ (codes " " ++ (name_in form d.name ++ (codes " " ++ encode_lower hash)))
 
 -- its number, and how many nodes it has of how many
 abbrev pub how_many_it_has : ℕ → ListedSegment → List ℕ
@@ -55,22 +64,23 @@ how_many_it_has number s =
     ++ (codes "/" ++ (decimal s.max_nodes ++ codes "\n")))))
 
 -- its line
-abbrev pub service_line : (e : Entry) → IsService e → List ℕ
-service_line e s = who_it_is e.hash.0 s.description ++ how_many_it_has s.number s.segment
+abbrev pub service_line : Form → (e : Entry) → IsService e → List ℕ
+service_line form e s = who_it_is form e.hash.0 s.description ++ how_many_it_has s.number s.segment
 
 -- The lines of the services among these entries, in their order, and how many they are. What is no service has none.
-pub data AreServiceLines : List Entry → ℕ → List ℕ → Type 0 where
-  none : AreServiceLines [] 0 []
+pub data AreServiceLines (form : Form) : List Entry → ℕ → List ℕ → Type 0 where
+  none : AreServiceLines form [] 0 []
   service : {e : Entry} {entries : List Entry} {n : ℕ} {lines : List ℕ} (s : IsService e)
-      → AreServiceLines entries n lines → AreServiceLines (e ∷ entries) (n + 1) (service_line e s ++ lines)
+      → AreServiceLines form entries n lines
+      → AreServiceLines form (e ∷ entries) (n + 1) (service_line form e s ++ lines)
   other : {e : Entry} {entries : List Entry} {n : ℕ} {lines : List ℕ} → (IsService e → ⊥)
-      → AreServiceLines entries n lines → AreServiceLines (e ∷ entries) n lines
+      → AreServiceLines form entries n lines → AreServiceLines form (e ∷ entries) n lines
 
--- A listing has its services line by line, and then how many they are.
-pub record ListsServices (entries : List Entry) (text : List ℕ) : Type 0 where
+-- A listing has its services line by line, with names of this form, and then how many they are.
+pub record ListsServices (form : Form) (entries : List Entry) (text : List ℕ) : Type 0 where
   pub count : ℕ
   pub lines : List ℕ
-  pub services : AreServiceLines entries count lines
+  pub services : AreServiceLines form entries count lines
   pub are : text ≡ lines ++ decimal count ++ codes " services\n"
 
 -- The text of a reply to a command for this slot. That there was no memory has no text.
@@ -83,7 +93,7 @@ IsReplyText slot (reply.NotClosed k) text = text ≡ codes "not closed " ++ deci
 IsReplyText slot reply.SlotInUse text = text ≡ codes "slot " ++ decimal slot ++ codes " in use\n"
 IsReplyText slot reply.SlotEmpty text = text ≡ codes "slot " ++ decimal slot ++ codes " empty\n"
 IsReplyText slot reply.NoSuchSlot text = text ≡ codes "no slot " ++ decimal slot ++ codes "\n"
-IsReplyText slot (reply.Listing entries) text = ListsServices entries.items text
+IsReplyText slot (reply.Listing entries) text = ListsServices form.Plain entries.items text
 IsReplyText slot reply.OutOfMemory text = ⊥
 
 -- The text has grown by what is added.
@@ -95,6 +105,6 @@ abbrev pub GrowsByService : Bool → (line : List ℕ) → (old new : List ℕ) 
 GrowsByService found line old new = (found ≡ true) × (new ≡ old ++ line)
 
 -- The text has grown by the entry's line where that is a service, and else it is as it was.
-abbrev pub GrowsByEntry : Bool → Entry → (old new : List ℕ) → Type 0
-GrowsByEntry true e old new = (s : IsService e) × (new ≡ old ++ service_line e s)
-GrowsByEntry false e old new = (IsService e → ⊥) × (new ≡ old)
+abbrev pub GrowsByEntry : Form → Bool → Entry → (old new : List ℕ) → Type 0
+GrowsByEntry form true e old new = (s : IsService e) × (new ≡ old ++ service_line form e s)
+GrowsByEntry form false e old new = (IsService e → ⊥) × (new ≡ old)

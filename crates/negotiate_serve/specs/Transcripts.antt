@@ -94,10 +94,10 @@ pub record IsAtNoCommand (k : ℕ) (bytes rest last unread : List ℕ) : Type 0 
 abbrev pub IsCut : {M : Type 0} → AnsweringLines M → M → (number : ℕ) → (rest last : List ℕ) → Type 0
 IsCut Answers m k rest last = (next : List ℕ) × ComesNext Answers m k rest next × IsFrontOf last next
 
--- It may end so. A line that is neither blank nor a command ends it only where such a line has no reply.
-abbrev pub MayEnd : WrongLines → Ending → Type 0
-MayEnd w ending.InputEnded = Unit {0}
-MayEnd w (ending.NotACommand number line) = w ≡ wrong_lines.End
+-- It may end so. A line that is neither blank nor a command ends it only where such a line does.
+abbrev pub MayEnd : (AtWrong : Type 0) → Ending → Type 0
+MayEnd AtWrong ending.InputEnded = Unit {0}
+MayEnd AtWrong (ending.NotACommand number line) = AtWrong
 
 -- how many lines are answered at most
 abbrev pub most_lines : ℕ

@@ -1,19 +1,15 @@
 //! Lines in, answers out.
 
-ghost use Rattle.std.specs.Prelude.{◌≡◌, ℕ, List, Some, IfOk, IfSome, OnOk, false, string_bytes};
-ghost use Rattle.negotiate_serve.specs.declared.ending.WrongLines.TheVariants as wrong;
-ghost use Rattle.negotiate_serve.specs.Replies.{GrowsBy};
-ghost use Rattle.negotiate_serve.specs.Served.{AnswersAll, IsAnswerToWrong, GrowsByLine, TakesTurn};
-ghost use Rattle.negotiate_serve.specs.Transcripts.{AnswersLineBy, IsReplyToWrong, LinesBy, MayEnd};
+ghost use Rattle.std.specs.Prelude.{◌≡◌, ℕ, List, Some, IfOk, IfSome};
+ghost use Rattle.negotiate_serve.specs.Served.{AnswersAll, TakesTurn};
+ghost use Rattle.negotiate_serve.specs.Transcripts.{AnswersLineBy, MayEnd};
 
 use crate::answerer::Answerer;
 use crate::ending::{Ending, ServeError, WrongLines};
 use crate::input::next_line;
+use crate::lines::Lines;
 use crate::output::write_out;
-use negotiate_lines::line::{self, Line};
-use negotiate_lines::wrong::Wrong;
-use negotiate_lines::wrong_text::wrong_text;
-use std::alloc::{AllocError, Global};
+use std::alloc::Global;
 use std::io::{BufRead, Write};
 use std::mem;
 
@@ -51,7 +47,7 @@ pub fn answer_lines<A: Answerer, R: BufRead, W: Write>(
     for number in 1..u64::MAX {
         let ending = answer_next(
             number,
-            WrongLines::End,
+            &WrongLines::End,
             reader,
             output,
             answerer,
@@ -64,34 +60,27 @@ pub fn answer_lines<A: Answerer, R: BufRead, W: Write>(
     Err(ServeError::TooManyLines)
 }
 
-/// Reads the next line and answers it by one write, which is flushed. It is the line with this number,
-/// counted from 1. Returns how the program ends, if it does. Where it is neither blank nor a command, `wrong_lines` has
-/// what becomes of it.
-pub fn answer_next<A: Answerer, R: BufRead, W: Write>(
+/// Reads the next line and answers it as such lines are, by one write, which is flushed. It is the line with this number,
+/// counted from 1. Returns how the program ends, if it does.
+pub fn answer_next<A, L: Lines<A>, R: BufRead, W: Write>(
     number: u64,
-    wrong_lines: WrongLines,
+    lines: &L,
     reader: &mut R,
     output: &mut W,
     answerer: &mut A,
     buffers: &mut Buffers,
 ) -> Result<Option<Ending>, ServeError>
-    ensures turn { A.stands answerer.old → (rest : List ℕ) → R.remaining reader.old ≡ Some rest
-        → TakesTurn (LinesBy wrong_lines A.answers) result answerer.old number rest
+    ensures turn { L.stands answerer.old → (rest : List ℕ) → R.remaining reader.old ≡ Some rest
+        → TakesTurn (L.lines lines.now) result answerer.old number rest
         (R.remaining reader.new) answerer.new (W.contents output.old) (W.contents output.new) }
-    ensures ends { IfOk result (λ ended. IfSome ended (MayEnd wrong_lines)) }
-    ensures stands { A.stands answerer.old → A.stands answerer.new }
+    ensures ends { IfOk result (λ ended. IfSome ended (MayEnd (L.ends_at_wrong lines.now))) }
+    ensures stands { L.stands answerer.old → L.stands answerer.new }
 {
     if !next_line(reader, &mut buffers.line)? {
         return Ok(Some(Ending::InputEnded));
     }
     buffers.text.clear();
-    let goes_on = answer_line(
-        number,
-        wrong_lines,
-        &buffers.line,
-        answerer,
-        &mut buffers.text,
-    )?;
+    let goes_on = lines.answer_line(number, &buffers.line, answerer, &mut buffers.text)?;
     write_out(buffers.text.as_bytes(), output)?;
     if goes_on {
         return Ok(None);
@@ -99,63 +88,4 @@ pub fn answer_next<A: Answerer, R: BufRead, W: Write>(
     let alloc = *buffers.text.allocator();
     let line = mem::replace(&mut buffers.line, Vec::new(alloc));
     Ok(Some(Ending::NotACommand { number, line }))
-}
-
-/// Writes the answer to one line into the text, and returns whether the program goes on.
-fn answer_line<A: Answerer>(
-    number: u64,
-    wrong_lines: WrongLines,
-    line: &[u8],
-    answerer: &mut A,
-    text: &mut String,
-) -> Result<bool, AllocError>
-    ensures answered { A.stands answerer.old → IfOk result (λ goes_on. GrowsByLine
-        (LinesBy wrong_lines A.answers) goes_on
-        answerer.old number line.now (string_bytes text.old) (string_bytes text.new) answerer.new) }
-    ensures ends { IfOk result (λ goes_on. goes_on ≡ false → wrong_lines ≡ wrong.End) }
-    ensures stands { A.stands answerer.old → A.stands answerer.new }
-{
-    match line::parse(*text.allocator(), line)? {
-        Line::Blank => Ok(true),
-        Line::NotACommand(wrong) => answer_wrong(number, wrong_lines, wrong, text),
-        Line::Command(command) => {
-            answerer.answer(line, command, text)?;
-            Ok(true)
-        }
-    }
-}
-
-/// Writes what is written of a line of which this is wrong, and returns whether the program goes on.
-fn answer_wrong(
-    number: u64,
-    wrong_lines: WrongLines,
-    wrong: Wrong<'_>,
-    text: &mut String,
-) -> Result<bool, AllocError>
-    ensures { IfOk result (λ goes_on. GrowsBy (IsAnswerToWrong wrong_lines goes_on number wrong.entry)
-        (string_bytes text.old) (string_bytes text.new)) }
-{
-    match wrong_lines {
-        WrongLines::End => {
-            writeln!(text, "line {number}: not a command")?;
-            Ok(false)
-        }
-        WrongLines::Reply => {
-            reply_wrong(wrong, "", text)?;
-            Ok(true)
-        }
-        WrongLines::ReplyApart => {
-            reply_wrong(wrong, "\n", text)?;
-            Ok(true)
-        }
-    }
-}
-
-/// Writes the reply to a line of which this is wrong, and an end after it.
-fn reply_wrong(wrong: Wrong<'_>, end: &str, text: &mut String) -> Result<(), AllocError>
-    ensures { OnOk result (GrowsBy (IsReplyToWrong end.now wrong.entry)
-        (string_bytes text.old) (string_bytes text.new)) }
-{
-    let told = wrong_text(*text.allocator(), wrong)?;
-    write!(text, "error: {told}\n{end}")
 }

@@ -9,7 +9,8 @@
 //! `serve_session`). No clause states when a reader or a writer failed.
 //!
 //! `serve_by` is the same of any `Answerer` (`ServesBy`), and `answer_lines` over any buffered reader, which writes
-//! none of its failures (`AnswersAll`). `answer_next` is one turn (`TakesTurn`); `input::next_line` reads the next
+//! none of its failures (`AnswersAll`). `answer_next` is one turn (`TakesTurn`), whatever the way is in which lines are
+//! answered (`Lines`); `input::next_line` reads the next
 //! line (`ReadsLine`); `output::write_out` has written the whole text, or a front where it fails (`Writes`).
 //! `report::report` writes the line of the failure, or of what is wrong with a line, with the program's name in front
 //! (`Reports`). `reply::describe`: the text has grown by exactly the reply (`IsReplyText`): its line, and for a
@@ -20,6 +21,7 @@ pub mod answer;
 pub mod answerer;
 pub mod ending;
 pub mod input;
+pub mod lines;
 pub mod output;
 pub mod reply;
 pub mod report;

@@ -2,12 +2,13 @@
 
 ghost use Rattle.std.specs.Prelude.{◌≡◌, ◌++◌, IfOk, OnOk, string_bytes};
 ghost use Rattle.negotiate_serve.specs.Replies.{GrowsBy, GrowsByEntry, GrowsByService, ListsServices, IsReplyText};
-ghost use Rattle.negotiate_serve.specs.Replies.{how_many_it_has, pattern_term, who_it_is};
+ghost use Rattle.negotiate_serve.specs.Replies.{how_many_it_has, name_in, pattern_term, who_it_is};
 
 use iceoryx2_byte_form::bytes::{DecodeError, decode};
 use iceoryx2_commands::command::{Refusal, Reply};
 use iceoryx2_description::description::{MessagingPattern, ServiceHash, StaticConfig};
 use iceoryx2_world::listing::{Entry, ListedRow, ListedSegment};
+use negotiate_lines::leaf::{Form, escape_leaf};
 use std::alloc::AllocError;
 
 /// Writes the text of a reply to a command for this slot: a line, and for a listing a line for each
@@ -33,18 +34,19 @@ pub fn describe(reply: &Reply, slot: usize, text: &mut String) -> Result<(), All
         Reply::SlotInUse => writeln!(text, "slot {slot} in use"),
         Reply::SlotEmpty => writeln!(text, "slot {slot} empty"),
         Reply::NoSuchSlot => writeln!(text, "no slot {slot}"),
-        Reply::Listing(entries) => describe_services(entries, text),
+        Reply::Listing(entries) => describe_services(Form::Plain, entries, text),
         Reply::OutOfMemory => Err(AllocError),
     }
 }
 
-/// Writes a line for each service among the entries, in their order, and how many they are.
-fn describe_services(entries: &[Entry], text: &mut String) -> Result<(), AllocError>
-    ensures { OnOk result (GrowsBy (ListsServices entries.now) (string_bytes text.old) (string_bytes text.new)) }
+/// Writes a line for each service among the entries, in their order, with names of this form, and how many they are.
+/// `AllocError` as `describe`.
+pub fn describe_services(form: Form, entries: &[Entry], text: &mut String) -> Result<(), AllocError>
+    ensures { OnOk result (GrowsBy (ListsServices form entries.now) (string_bytes text.old) (string_bytes text.new)) }
 {
     let mut count = 0usize;
     for entry in entries {
-        if describe_entry(entry, text)? {
+        if describe_entry(form, entry, text)? {
             count += 1;
         }
     }
@@ -53,9 +55,9 @@ fn describe_services(entries: &[Entry], text: &mut String) -> Result<(), AllocEr
 
 /// Writes the line of an entry that is a service, and returns whether it is one: its description is
 /// published, and its segment stands beside it.
-fn describe_entry(entry: &Entry, text: &mut String) -> Result<bool, AllocError>
+fn describe_entry(form: Form, entry: &Entry, text: &mut String) -> Result<bool, AllocError>
     ensures { IfOk result (λ found.
-        GrowsByEntry found entry.now (string_bytes text.old) (string_bytes text.new)) }
+        GrowsByEntry form found entry.now (string_bytes text.old) (string_bytes text.new)) }
 {
     let Some(segment) = entry.segment else {
         return Ok(false);
@@ -64,7 +66,14 @@ fn describe_entry(entry: &Entry, text: &mut String) -> Result<bool, AllocError>
         return Ok(false);
     };
     match decode(*text.allocator(), bytes.as_slice()) {
-        Ok(description) => describe_service(&entry.hash, &description, *number, segment, text),
+        Ok(description) => describe_service(
+            form,
+            &entry.hash,
+            &description,
+            *number,
+            segment,
+            text,
+        ),
         Err(DecodeError::Malformed) => Ok(false),
         Err(DecodeError::OutOfMemory) => Err(AllocError),
     }
@@ -72,6 +81,7 @@ fn describe_entry(entry: &Entry, text: &mut String) -> Result<bool, AllocError>
 
 /// Writes the line of a service, and returns that it is one.
 fn describe_service(
+    form: Form,
     hash: &ServiceHash,
     description: &StaticConfig,
     number: u64,
@@ -79,16 +89,16 @@ fn describe_service(
     text: &mut String,
 ) -> Result<bool, AllocError>
     ensures { IfOk result (λ found. GrowsByService found
-        (who_it_is hash.now.0 description.now ++ how_many_it_has number segment)
+        (who_it_is form hash.now.0 description.now ++ how_many_it_has number segment)
         (string_bytes text.old) (string_bytes text.new)) }
 {
-    describe_identity(hash, description, text)?;
+    describe_identity(form, hash, description, text)?;
     describe_segment(number, segment, text)?;
     Ok(true)
 }
 
 /// The term by which a pattern's command lines begin.
-fn term_of(pattern: &MessagingPattern) -> &'static str
+pub fn term_of(pattern: &MessagingPattern) -> &'static str
     ensures { result.now ≡ pattern_term pattern.now }
 {
     match pattern {
@@ -100,17 +110,29 @@ fn term_of(pattern: &MessagingPattern) -> &'static str
 
 /// Writes the front of a service's line: its pattern, its name and its hash.
 fn describe_identity(
+    form: Form,
     hash: &ServiceHash,
     description: &StaticConfig,
     text: &mut String,
 ) -> Result<(), AllocError>
     ensures { OnOk result (string_bytes text.new
-        ≡ string_bytes text.old ++ who_it_is hash.now.0 description.now) }
+        ≡ string_bytes text.old ++ who_it_is form hash.now.0 description.now) }
 {
     let pattern = term_of(description.messaging_pattern());
-    let name = description.name();
+    write!(text, "{pattern} ")?;
+    describe_name(form, description.name().as_str(), text)?;
     let hash = hash.to_text(*text.allocator())?;
-    write!(text, "{pattern} {name} {hash}")
+    write!(text, " {hash}")
+}
+
+/// Writes a service's name.
+fn describe_name(form: Form, name: &str, text: &mut String) -> Result<(), AllocError>
+    ensures { OnOk result (string_bytes text.new ≡ string_bytes text.old ++ name_in form name.now) }
+{
+    match form {
+        Form::Plain => text.push_str(name),
+        Form::Escaped => escape_leaf(name.as_bytes(), text),
+    }
 }
 
 /// Writes the rest of it: its number, and how many nodes it has of how many.
