@@ -1,0 +1,17 @@
+pub mod Commanded
+pub mod Answering
+pub mod Asked
+pub mod EntryTexts
+pub mod PlainLines
+pub mod Listings
+pub mod Numbers
+pub mod OneLine
+pub mod Refusals
+pub mod AskingTexts
+pub mod AskingValues
+pub mod AskingSettings
+pub mod AskingGraphic
+pub mod AskingPairs
+pub mod AskingLine
+pub mod OneCall
+pub mod AskingCall

@@ -1,0 +1,26 @@
+//! What lines of an escaped session are answered, whatever the storage.
+//!
+//! `lines::EscapedLines`: a line is what `parse_request` reads, and each case of it has its answer
+//! (`AnswersEscapedLine`): a command, a question, a whole plain line, what is neither, and a blank one. It is a way of
+//! answering lines (`negotiate_serve::lines::Lines`) of any `Asked`: what answers commands in escaped texts, and
+//! questions. `answerer::TableAnswerer` is one: a session over a table of its own, which replies as the machine of
+//! `negotiate` does (`SessionReplies`). `reply::describe_escaped` writes a reply, a refusal with its number and the
+//! names in a listing as leaves (`IsEscapedReply`). `questions::answer_question` answers a question over any storage
+//! that shows a world (`AnswersQuestion`): what was agreed on in a slot, its bytes, an abandon, after which the slot is
+//! empty and nothing else changed, the entries of the listing, and the texts of a refusal, which `refusal_of` finds by
+//! its number (`IsNumbered`); no two have one (`numbers_of_refusals_differ`).
+//!
+//! `asking::write_asking` writes what was agreed on as the line that asks for it (`asking`). Read as an escaped line it
+//! asks for the same, and is nothing else (`law_of_asking`). `laws::law_of_one_line`: each answer but to a list is one
+//! line of printable ASCII (`IsOneLine`), where what is wrong with a line isn't told.
+#![tactic(auto)]
+
+pub mod answerer;
+pub mod asking;
+pub mod entries;
+pub mod laws;
+pub mod lines;
+pub mod numbered;
+pub mod questions;
+pub mod refusal;
+pub mod reply;
