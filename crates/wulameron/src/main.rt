@@ -10,16 +10,17 @@ use negotiate_serve::ending::{FAULT, NOT_A_COMMAND, ServeError};
 use negotiate_serve::report::report_failure;
 use std::process::ExitCode;
 use std::{env, io};
-use wulameron_arguments::arguments::arguments;
-use wulameron_arguments::asked::{Asked, Place};
-use wulameron_arguments::home::{DefaultLog, default_log, make_folder};
+use wulameron_arguments::arguments::{arguments, asks_session};
+use wulameron_arguments::asked::{Asked, Place, Run};
+use wulameron_arguments::home::{DefaultLog, FolderError, default_log, make_folder};
 use wulameron_arguments::pipes::{Pipes, PipesError};
 use wulameron_hold::hold::hold;
 use wulameron_place::clean::clean;
 use wulameron_place::reports::Reports;
 use wulameron_place::trouble::Trouble;
+use wulameron_serve::escaped::{refuse_folder, refuse_log, run_escaped};
+use wulameron_serve::gone::refuse_session;
 use wulameron_serve::run::run;
-use wulameron_session::session::session;
 use wulameron_trail::commands::{check, log, watch};
 use wulameron_trail::pauses::Sleeper;
 use wulameron_view::viewing::{list, nodes, show};
@@ -40,8 +41,8 @@ fn words(rt: &HostRuntime) -> io::Result<Vec<String>> {
     Ok(env::args(rt)?.collect(rt.alloc())?)
 }
 
-/// Makes the folder of the log where no word names the log and the command makes one. False where it can't be used, of
-/// which the standard error has a line.
+/// Makes the folder of the log where no word names the log and the command makes one. False where it can't be used, which
+/// is told.
 fn is_prepared(rt: &HostRuntime, default: Option<&DefaultLog>, asked: &Asked<'_>) -> bool {
     let Some(log) = default else {
         return true;
@@ -55,16 +56,35 @@ fn is_prepared(rt: &HostRuntime, default: Option<&DefaultLog>, asked: &Asked<'_>
     match make_folder(rt, folder) {
         Ok(()) => true,
         Err(error) => {
-            let _ = Reports::new(rt.alloc(), folder, rt.stderr()).tell(error);
+            tell_folder(rt, folder, error, asked.is_escaped());
             false
         }
     }
 }
 
+/// Tells why the folder of the log can't be used, on the standard output where lines are escaped.
+fn tell_folder(rt: &HostRuntime, folder: &str, error: FolderError, is_escaped: bool) {
+    if is_escaped {
+        let _ = refuse_folder(rt.alloc(), folder, error, &mut io::writer(rt));
+        return;
+    }
+    let _ = Reports::new(rt.alloc(), folder, rt.stderr()).tell(error);
+}
+
+/// Tells that the pipes to the database are gone, on the standard output where lines are escaped, and gives the status.
+fn tell_ended(rt: &HostRuntime, at: &str, is_escaped: bool) -> u8 {
+    let trouble = Trouble::Database(PostgresFault::SessionEnded);
+    if is_escaped {
+        return refuse_log(rt.alloc(), trouble, &mut io::writer(rt));
+    }
+    let _ = Reports::new(rt.alloc(), at, rt.stderr()).tell(trouble);
+    FAULT
+}
+
 /// The pipes to the database that has the log. `None` where the log is in a file.
 ///
-/// The status with which the program ends where there are none, of which the standard error has a line.
-fn pipes_to(rt: &HostRuntime, place: Place<'_>) -> Result<Option<Pipes>, u8> {
+/// The status with which the program ends where there are none, which is told.
+fn pipes_to(rt: &HostRuntime, place: Place<'_>, is_escaped: bool) -> Result<Option<Pipes>, u8> {
     if place.database_log().is_none() {
         return Ok(None);
     }
@@ -80,8 +100,7 @@ fn pipes_to(rt: &HostRuntime, place: Place<'_>) -> Result<Option<Pipes>, u8> {
             Err(NOT_A_COMMAND)
         }
         Err(PipesError::Refused) | Err(PipesError::NoOthers) => {
-            let _ = reports.tell(Trouble::Database(PostgresFault::SessionEnded));
-            Err(FAULT)
+            Err(tell_ended(rt, place.at, is_escaped))
         }
     }
 }
@@ -93,11 +112,20 @@ fn answer_over<'a>(rt: &HostRuntime, asked: Asked<'a>, pipes: Option<&'a Pipes>)
     answer(rt, asked)
 }
 
+/// Answers lines, and gives the status.
+fn answer_lines(rt: &HostRuntime, asked: &Run<'_>) -> u8 {
+    let mut output = io::writer(rt);
+    if asked.is_escaped {
+        return run_escaped(rt, asked, rt.reader(), &mut output);
+    }
+    run(rt, asked, rt.reader(), &mut output, &mut rt.stderr())
+}
+
 /// Carries out what is asked for, and gives the status.
 fn answer(rt: &HostRuntime, asked: Asked<'_>) -> u8 {
     let mut output = io::writer(rt);
     match asked {
-        Asked::Run(asked) => run(rt, &asked, rt.reader(), &mut output, &mut rt.stderr()),
+        Asked::Run(asked) => answer_lines(rt, &asked),
         Asked::List(look) => list(&rt, &look, &mut output, &mut rt.stderr()),
         Asked::Show(asked) => show(&rt, &asked, &mut output, &mut rt.stderr()),
         Asked::Nodes(look) => nodes(&rt, &look, &mut output, &mut rt.stderr()),
@@ -111,13 +139,15 @@ fn answer(rt: &HostRuntime, asked: Asked<'_>) -> u8 {
             watch(&rt, &look, &mut pauses, &mut output, &mut rt.stderr())
         }
         Asked::Check(place) => check(&rt, &place, &mut output, &mut rt.stderr()),
-        Asked::Session(asked) => session(rt, &asked, rt.reader(), &mut output),
         Asked::Hold(asked) => hold(rt, &asked, rt.reader(), &mut output, &mut rt.stderr()),
     }
 }
 
 /// Carries out what the words ask for, and gives the status.
 fn carry_out(rt: &HostRuntime, default: Option<&DefaultLog>, words: &[String]) -> u8 {
+    if asks_session(words) {
+        return refuse_session(&mut io::writer(rt), &mut rt.stderr());
+    }
     let home = match default {
         Some(log) => Some(log.path.as_str()),
         None => None,
@@ -128,7 +158,8 @@ fn carry_out(rt: &HostRuntime, default: Option<&DefaultLog>, words: &[String]) -
             if !is_prepared(rt, default, &asked) {
                 return FAULT;
             }
-            match pipes_to(rt, *asked.place()) {
+            let is_escaped = asked.is_escaped();
+            match pipes_to(rt, *asked.place(), is_escaped) {
                 Ok(pipes) => answer_over(rt, asked, pipes.as_ref()),
                 Err(status) => status,
             }

@@ -2,9 +2,10 @@
 
 ghost use Rattle.std.specs.Prelude.{◌≡◌, Some, IfSome, cond, codes};
 ghost use Rattle.clap.specs.Words.{found_of, first_value};
+ghost use Rattle.wulameron_arguments.specs.Making.{asks_session};
 ghost use Rattle.iceoryx2_file_log.specs.declared.options.Sharing.TheVariants as sharing;
 
-use crate::asked::{Asked, Clean, Hold, LogLook, Look, Pattern, Place, Run, Session, Show, Wanted};
+use crate::asked::{Asked, Clean, Hold, LogLook, Look, Pattern, Place, Run, Show, Wanted};
 use crate::commands::command;
 use clap::{ArgMatches, Error};
 use iceoryx2_file_log::options::{FileLogOptions, Sharing};
@@ -27,12 +28,19 @@ pub fn arguments<'a>(
     Ok(asked_by(&matches))
 }
 
+/// Whether the words ask for the command of before by which programs in other languages had sessions.
+pub fn asks_session(words: &[String]) -> bool
+    ensures { result ≡ asks_session words.now }
+{
+    match words {
+        [_, command, ..] => command.as_str() == "session",
+        _ => false,
+    }
+}
+
 fn asked_by<'a>(matches: &ArgMatches<'a>) -> Option<Asked<'a>> {
     if let Some(matches) = matches.subcommand_matches("run") {
         return Some(Asked::Run(run_of(matches)?));
-    }
-    if let Some(matches) = matches.subcommand_matches("session") {
-        return Some(Asked::Session(session_of(matches)?));
     }
     if let Some(matches) = matches.subcommand_matches("clean") {
         return Some(Asked::Clean(clean_of(matches)?));
@@ -73,18 +81,7 @@ fn run_of<'a>(matches: &ArgMatches<'a>) -> Option<Run<'a>>
         explains: matches.get_flag("explain"),
         cleans: !matches.get_flag("no-clean"),
         is_strict: matches.get_flag("strict"),
-    })
-}
-
-/// The session that was matched. `None` where a value is missing that each match has.
-fn session_of<'a>(matches: &ArgMatches<'a>) -> Option<Session<'a>>
-    ensures at { IfSome result (λ session.
-        first_value (found_of matches.now) (codes "at") ≡ Some session.place.at.now) }
-{
-    Some(Session {
-        place: making_place_of(matches)?,
-        node: matches.get_one::<u64>("node"),
-        cleans: !matches.get_flag("no-clean"),
+        is_escaped: matches.get_flag("escaped"),
     })
 }
 

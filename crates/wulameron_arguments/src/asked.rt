@@ -1,7 +1,7 @@
 //! What the words ask for.
 
 ghost use Rattle.std.specs.Prelude.{◌≡◌, option_map};
-ghost use Rattle.wulameron_arguments.specs.Making.{made_log};
+ghost use Rattle.wulameron_arguments.specs.Making.{is_escaped, made_log};
 
 use crate::pipes::Pipes;
 use iceoryx2_file_log::options::FileLogOptions;
@@ -60,6 +60,8 @@ pub struct Run<'a> {
     pub cleans: bool,
     /// Whether the first line that is no command ends it. Else each has a reply.
     pub is_strict: bool,
+    /// Whether lines are escaped, and may be questions.
+    pub is_escaped: bool,
 }
 
 /// A call whose factory is to be held.
@@ -73,16 +75,6 @@ pub struct Hold<'a> {
     pub how: &'a str,
     pub name: &'a str,
     pub terms: Vec<&'a str>,
-}
-
-/// That the calls of the program that started this one are to be answered.
-#[derive(Clone, Copy, Debug)]
-pub struct Session<'a> {
-    pub place: Place<'a>,
-    /// The node in whose name the calls are. `None` where any will do.
-    pub node: Option<u64>,
-    /// Whether what dead nodes have is given back.
-    pub cleans: bool,
 }
 
 /// A look at a log.
@@ -147,8 +139,6 @@ pub enum Asked<'a> {
     Run(Run<'a>),
     /// A call is to be held.
     Hold(Hold<'a>),
-    /// Calls are to be answered.
-    Session(Session<'a>),
     /// The services are to be listed.
     List(Look<'a>),
     /// One service is to be shown.
@@ -171,7 +161,6 @@ impl<'a> Asked<'a> {
         match self {
             Asked::Run(run) => &mut run.place,
             Asked::Hold(hold) => &mut hold.place,
-            Asked::Session(session) => &mut session.place,
             Asked::List(look) => &mut look.place,
             Asked::Show(show) => &mut show.look.place,
             Asked::Nodes(look) => &mut look.place,
@@ -182,6 +171,16 @@ impl<'a> Asked<'a> {
         }
     }
 
+    /// Whether lines are answered that are escaped.
+    pub fn is_escaped(&self) -> bool
+        ensures { result ≡ is_escaped self.now }
+    {
+        match self {
+            Asked::Run(run) => run.is_escaped,
+            _ => false,
+        }
+    }
+
     /// The path of the log that is made where there is none. `None` where the command makes none.
     pub fn made_log(&self) -> Option<&'a str>
         ensures { option_map (λ path. path.now) result ≡ made_log self.now }
@@ -189,7 +188,6 @@ impl<'a> Asked<'a> {
         match self {
             Asked::Run(run) => Some(run.place.at),
             Asked::Hold(hold) => Some(hold.place.at),
-            Asked::Session(session) => Some(session.place.at),
             _ => None,
         }
     }

@@ -19,8 +19,7 @@ pub(crate) fn command<'a>(alloc: Global, home: Option<&'a str>) -> Result<Comman
         .about("Creates and opens named services over a log that processes share")
         .subcommand_required(true)
         .subcommand(run(alloc, home)?)?
-        .subcommand(hold(alloc, home)?)?
-        .subcommand(session(alloc, home)?)?;
+        .subcommand(hold(alloc, home)?)?;
     let command = with_views(alloc, home, command)?;
     command
         .subcommand(clean(alloc, home)?)?
@@ -60,19 +59,19 @@ fn run<'a>(alloc: Global, home: Option<&'a str>) -> Result<Command<'a>, AllocErr
             "Explains each reply, as the program explain does",
         ))?
         .arg(flag(alloc, "strict", "Ends at the first line that is no command"))?
+        .arg(escaped(alloc)?)?
         .arg(no_clean(alloc))
 }
 
-/// The session that a program in another language has by this one.
-fn session<'a>(alloc: Global, home: Option<&'a str>) -> Result<Command<'a>, AllocError> {
-    let command = command_of(
+/// That lines are escaped, and may be questions.
+fn escaped<'a>(alloc: Global) -> Result<Arg<'a>, AllocError> {
+    flag(
         alloc,
-        "session",
-        "Answers the calls of a library that started it, in bytes",
-    );
-    with_making(alloc, home, command)?
-        .arg(node(alloc))?
-        .arg(no_clean(alloc))
+        "escaped",
+        "Reads and writes lines with %XX for a byte in names, keys, values and types, and answers questions: for programs",
+    )
+    .conflicts_with("strict")?
+    .conflicts_with("explain")
 }
 
 fn hold<'a>(alloc: Global, home: Option<&'a str>) -> Result<Command<'a>, AllocError> {

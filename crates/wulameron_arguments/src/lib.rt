@@ -1,8 +1,8 @@
 //! The words by which the program `wulameron` is started, and where the log lies that no word names.
 //!
 //! `home::default_log_in`: the log's path by what the environment has is exact (`default_path`). Which path a
-//! command takes is that of `--at`, and which commands make a log is exact (`made_log`). Of the other words only
-//! that reading them is safe is proved.
+//! command takes is that of `--at`, and which commands make a log is exact (`made_log`), and which words are those of the
+//! sessions of before (`asks_session`). Of the other words only that reading them is safe is proved.
 #![tactic(auto)]
 
 pub mod arguments;

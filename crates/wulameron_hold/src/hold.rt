@@ -13,6 +13,7 @@ use iceoryx2_session::resuming::{Renewing, Resuming};
 use iceoryx2_session::session::Session;
 use iceoryx2_session::world_storage::WorldStorage;
 use negotiate_explain::refusals::RefusalRow;
+use negotiate_lines::leaf::Form;
 use negotiate_lines::line::{Line, parse};
 use negotiate_lines::wrong::Wrong;
 use negotiate_lines::wrong_text::wrong_text;
@@ -104,7 +105,7 @@ fn words_line(alloc: Global, wrong: Wrong<'_>) -> Result<String, AllocError> {
 /// The call of these words for a node. They are a call, so where there is none there is no memory.
 fn held_call(alloc: Global, node: u64, hold: &Hold<'_>) -> Option<Call> {
     match call_line(alloc, node, hold) {
-        Ok(line) => call_of(alloc, line.as_bytes(), node),
+        Ok(line) => call_of(alloc, Form::Plain, line.as_bytes(), node),
         Err(_) => None,
     }
 }

@@ -1,9 +1,9 @@
 //! The command that gives back what dead nodes have, or writes what that would be.
 
-ghost use Rattle.std.specs.Prelude.{◌≡◌, IfSome};
+ghost use Rattle.std.specs.Prelude.{◌≡◌, ◌∷◌, [], IfOk, IfSome};
 ghost use Rattle.iceoryx2_journal.specs.Taking.{is_own};
 ghost use Rattle.iceoryx2_world.specs.Interference.{Rely};
-ghost use Rattle.wulameron_place.specs.Clean.{ComesToWorld};
+ghost use Rattle.wulameron_place.specs.Clean.{AreWanted, ComesToWorld};
 
 use crate::claims::{NodeError, list, state_of};
 use crate::dead::{DeadNodes, NotDead, PlaceNodes, Unclaimed, dead_of, not_dead};
@@ -73,7 +73,9 @@ pub fn wanted_nodes<F: Files<File = File> + AllocGlobal>(
     rt: &F,
     place: Place<'_>,
     named: Option<u64>,
-) -> Result<Vec<u64>, Unfound> {
+) -> Result<Vec<u64>, Unfound>
+    ensures { IfOk result (λ nodes. AreWanted named nodes.items) }
+{
     match named {
         Some(node) => named_node(rt, place, node),
         None => match list(rt, place) {
@@ -88,7 +90,9 @@ fn named_node<F: Files<File = File> + AllocGlobal>(
     rt: &F,
     place: Place<'_>,
     node: u64,
-) -> Result<Vec<u64>, Unfound> {
+) -> Result<Vec<u64>, Unfound>
+    ensures { IfOk result (λ nodes. nodes.items ≡ node ∷ []) }
+{
     match state_of(rt, place, node) {
         Ok(state) => match not_dead(node, state) {
             None => match vec![in rt.alloc(); node] {

@@ -1,3 +1,5 @@
 pub mod CallNodes
+pub mod Cleanings
 pub mod NodeAnswers
+pub mod Tellings
 pub mod UntilHalted

@@ -15,10 +15,15 @@ use Rattle.iceoryx2_session.specs.Resumed.{ResumesSession}
 use Rattle.iceoryx2_session.proofs.Shown.{goes_shown}
 use Rattle.iceoryx2_testing.specs.Trace.{IsTracedAccess}
 use Rattle.explain_serve.specs.Traces.{TracedOver}
+use Rattle.explain_serve.proofs.Explaining.{may_have_reason}
 use Rattle.iceoryx2_session.specs.Sessions.{SessionOver, AppliesBy, shown_session}
 use Rattle.iceoryx2_session.specs.SessionStates.{own_state}
 use Rattle.iceoryx2_session.specs.StandingSlots.{SlotsStandInWorld, SlotsStandUnder, IsOfOwn}
 use Rattle.iceoryx2_session.proofs.StandingSlots.{stand_kept}
+use Rattle.negotiate_lines.specs.declared.leaf.Form.{Form}
+use Rattle.negotiate_lines.specs.declared.leaf.Form.TheVariants as form
+use Rattle.negotiate_lines.specs.declared.line.Line.TheVariants as parsed
+use Rattle.negotiate_lines.specs.Lines.{IsLineIn}
 use Rattle.negotiate_serve.specs.declared.ending.Ending.{Ending}
 use Rattle.negotiate_serve.specs.declared.ending.ServeError.{ServeError}
 use Rattle.negotiate_serve.specs.declared.ending.WrongLines.{WrongLines}
@@ -32,7 +37,7 @@ use Rattle.wulameron_serve.specs.declared.answerer.NodeAnswerer.{NodeAnswerer}
 use Rattle.wulameron_serve.specs.Lines.{AnswersWhileUsable, IsUsable}
 use Rattle.wulameron_serve.specs.Served.{AnswersLinesFor}
 use Rattle.wulameron_serve.specs.Shared.{StandsFor, AnswersFor, AnswersWith, BeginsAsAnswered, GivesBack, Replies, are_given, are_gone, none_owed, of_another, called, stays, again, closed, listed}
-use Rattle.wulameron_serve.specs.Views.{Writing, WritesExplained, WritesPlain}
+use Rattle.wulameron_serve.specs.Views.{MayWrite, Writing, WritesExplained, WritesPlain}
 use Rattle.wulameron_serve.proofs.CallNodes.{caller_named}
 
 -- ---- what stands
@@ -115,11 +120,22 @@ ready_held spans step world ready spanned after old new c answer is before =
 
 -- ---- texts
 
+-- A reply to a line's command may be written in the line's form.
+pub may_write : {S : Type 0} {step : S → Letter → S → Type 0} {world : S → World} {old new : SessionOver S} (how : Form) (line : List ℕ) (c : Command) (reply : Reply) → IsLineIn how line (parsed.Command c) → AppliesBy step world old c reply new
+    → MayWrite how line reply
+may_write form.Plain line c reply is_line applies = may_have_reason line c reply is_line applies
+may_write form.Escaped line c reply is_line applies = tt
+
 -- What a text has grown by is also written otherwise.
 pub grows_as : (P Q : List ℕ → Type 0) → ((output : List ℕ) → P output → Q output) → (done : Result (Unit {0}) AllocError) (old new : List ℕ)
     → OnOk done (GrowsBy P old new) → OnOk done (GrowsBy Q old new)
 grows_as P Q also (Ok d) old new grows = (grows.0, also grows.0 grows.1, grows.2)
 grows_as P Q also (Err e) old new grows = tt
+
+-- It has grown by such a text.
+pub grows_by : (P : List ℕ → Type 0) (output : List ℕ) → P output → (done : Result (Unit {0}) AllocError) (old new : List ℕ) → OnOk done (new ≡ old ++ output) → OnOk done (GrowsBy P old new)
+grows_by P output is (Ok d) old new grown = (output, is, grown)
+grows_by P output is (Err e) old new grown = tt
 
 module _ {M : Type 0} (Answers : Answering M) (m n : M) (line : List ℕ) (c : Command) where
   -- what a text has grown by, and what comes behind it
@@ -137,7 +153,7 @@ module _ {M : Type 0} (Answers : Answering M) (m n : M) (line : List ℕ) (c : C
 -- how the session of a node answers commands
 abbrev AnswersNamed : {S : Type 0} (settles shows spans : S → S → Type 0) (step : S → Letter → S → Type 0) (world : S → World) (writes : Writing S) (ending : List ℕ) (node : ℕ)
     → Answering (SessionOver S)
-AnswersNamed settles shows spans step world writes ending node old line c text new = AnswersWith settles shows spans step world writes node line ending old c text new
+AnswersNamed settles shows spans step world writes ending node old line c text new = AnswersWith form.Plain settles shows spans step world writes node line ending old c text new
 
 module _ {S D : Type 0} (settles shows spans : S → S → Type 0) (step : S → Letter → S → Type 0) (world : S → World) (writes : Writing S) (ending : List ℕ) where
   -- how the answerer answers commands
@@ -219,14 +235,14 @@ module _ {S : Type 0} (settles shows spans : S → S → Type 0) (step : S → L
   replied_inside x = record { is = held_inside x.is; is_written = x.is_written.is_text.is_text }
 
   abbrev AnswersTraced : TracedOver S → Command → List ℕ → TracedOver S → Type 0
-  AnswersTraced old c text new = AnswersFor (SpansTraced shows) (SpansTraced spans) (IsTracedAccess step) (λ traced. world traced.inner) (WritesExplained step world) node line old c text new
+  AnswersTraced old c text new = AnswersFor form.Plain (SpansTraced shows) (SpansTraced spans) (IsTracedAccess step) (λ traced. world traced.inner) (WritesExplained step world) node line old c text new
 
   -- an answer, with an explanation behind it
   record Begins (old : TracedOver S) (c : Command) (text : List ℕ) (new : TracedOver S) : Type 0 where
     output : List ℕ
     explanation : List ℕ
     are : text ≡ output ++ explanation
-    answers : AnswersFor shows spans step world WritesPlain node line (inside old) c output (inside new)
+    answers : AnswersFor form.Plain shows spans step world WritesPlain node line (inside old) c output (inside new)
 
   begins_as_answered : {old new : TracedOver S} {text : List ℕ} {c : Command} → AnswersTraced old c text new → Begins old c text new
   begins_as_answered (of_another another) = record { output = _; explanation = []; are = sym (append-nil _); answers = of_another another }
@@ -248,7 +264,7 @@ module _ {S : Type 0} (settles shows spans : S → S → Type 0) (step : S → L
 
   -- and so does what ends with something more
   pub with_ending_as_answered : (ending : List ℕ) {old new : TracedOver S} {text : List ℕ} {c : Command}
-      → AnswersWith (SpansTraced settles) (SpansTraced shows) (SpansTraced spans) (IsTracedAccess step) (λ traced. world traced.inner) (WritesExplained step world) node line ending old c text new
+      → AnswersWith form.Plain (SpansTraced settles) (SpansTraced shows) (SpansTraced spans) (IsTracedAccess step) (λ traced. world traced.inner) (WritesExplained step world) node line ending old c text new
       → BeginsAsAnswered settles shows spans step world node line old c text new
   with_ending_as_answered ending {old = old} x =
       let begins = begins_as_answered x.answers in

@@ -1,5 +1,10 @@
+pub mod Asked
+pub mod Cleaning
 pub mod Dead
+pub mod Gone
 pub mod Lines
+pub mod Nodes
 pub mod Served
 pub mod Shared
+pub mod Telling
 pub mod Views

@@ -1,5 +1,5 @@
 -- How a program answers lines as long as its log can be used, and how it ends.
-use Rattle.std.specs.Prelude.{◌≡◌, ℕ, Bool, true, false, Result, Ok, Err, Option, Some, None}
+use Rattle.std.specs.Prelude.{◌≡◌, ℕ, Bool, true, false, List, Result, Ok, Err, Option, Some, None}
 use Rattle.negotiate_serve.specs.declared.ending.Ending.{Ending}
 use Rattle.negotiate_serve.specs.declared.ending.ServeError.{ServeError}
 use Rattle.negotiate_serve.specs.declared.ending.ServeError.TheVariants as failure
@@ -11,6 +11,7 @@ use Rattle.wulameron_place.specs.declared.halt.Halt.{Halt}
 use Rattle.wulameron_place.specs.declared.halt.Halt.TheVariants as halt
 use Rattle.wulameron_place.specs.declared.trouble.Trouble.{Trouble}
 use Rattle.wulameron_place.specs.Troubles.{last_of}
+use Rattle.wulameron_serve.specs.Telling.{IsLogReply}
 
 -- A log can be used: nothing went wrong, or not for the last time.
 abbrev pub IsUsable : Option Trouble → Type 0
@@ -43,3 +44,13 @@ wrong_lines_of false false = wrong_lines.Reply
 -- 0 at the end of the input, 2 after a line that is no command, 3 after a failure and where the log ends it
 abbrev pub status_with : Result Ending Halt → ℕ
 status_with ended = status_of (seen_as ended)
+
+-- It is replied so; or where the log can't be used any more, it is told why.
+abbrev pub IsTold : (last : Option Trouble) → (reply text : List ℕ) → Type 0
+IsTold None reply text = text ≡ reply
+IsTold (Some t) reply text = IsLogReply t text
+
+-- Lines are answered so. Where the log can't be used any more after one, it is told why in place of its reply.
+abbrev pub TellsTrouble : {M : Type 0} → (trouble : M → Option Trouble) → AnsweringLines M → AnsweringLines M
+TellsTrouble trouble Answers m line text n =
+    (reply : List ℕ) × Answers m line reply n × IsTold (last_of (trouble n)) reply text

@@ -13,8 +13,10 @@ use Rattle.iceoryx2_session.specs.Sessions.{SessionOver, shown_session}
 use Rattle.iceoryx2_session.specs.CommandWords.{AppliesHeld, SpansSession}
 use Rattle.iceoryx2_session.specs.Resumed.{EmptiesSlots}
 use Rattle.iceoryx2_session.specs.StandingSlots.{SlotsStandInWorld}
+use Rattle.negotiate_lines.specs.declared.leaf.Form.{Form}
+use Rattle.negotiate_lines.specs.declared.leaf.Form.TheVariants as form
 use Rattle.negotiate_lines.specs.declared.line.Line.TheVariants as parsed
-use Rattle.negotiate_lines.specs.Lines.{IsLine}
+use Rattle.negotiate_lines.specs.Lines.{IsLineIn}
 use Rattle.explain_serve.specs.Traces.{TracedOver}
 use Rattle.wulameron_serve.specs.Dead.{is_blocked}
 use Rattle.wulameron_serve.specs.Views.{Writing, WritesPlain}
@@ -39,11 +41,11 @@ pub record Replies {S : Type 0} (spans : S → S → Type 0) (step : S → Lette
   pub is : AppliesHeld spans step world old c answer new
   pub is_written : writes line c answer is.first is.last new.table text
 
-module _ {S : Type 0} (shows spans : S → S → Type 0) (step : S → Letter → S → Type 0) (world : S → World)
-    (writes : Writing S) (node : ℕ) (line : List ℕ) where
-  -- How a command is answered for this node: not where it names another node, and by the session's reply. After a
-  -- refusal of which a dead node may be the reason, what dead nodes have is given back, and the refusal stays, or the
-  -- line's call is made once more.
+module _ {S : Type 0} (how : Form) (shows spans : S → S → Type 0) (step : S → Letter → S → Type 0)
+    (world : S → World) (writes : Writing S) (node : ℕ) (line : List ℕ) where
+  -- How a command of a line in this form is answered for this node: not where it names another node, and by the
+  -- session's reply. After a refusal of which a dead node may be the reason, what dead nodes have is given back, and
+  -- the refusal stays, or the line's call is made once more.
   pub data AnswersFor (old : SessionOver S) : Command → (text : List ℕ) → SessionOver S → Type 0 where
     of_another : {call : Call} → call.node ≢ node → AnswersFor old (command.Call call) (not_ours call.node) old
     called : {call : Call} {text : List ℕ} {new : SessionOver S} (answer : Reply) → call.node ≡ node
@@ -57,7 +59,7 @@ module _ {S : Type 0} (shows spans : S → S → Type 0) (step : S → Letter �
     again : {call : Call} {text : List ℕ} {new : SessionOver S} (refused answer : Reply) (mid cleaned : SessionOver S)
         → (once : Call) → call.node ≡ node → is_blocked refused ≡ true
         → AppliesHeld spans step world old (command.Call call) refused mid → SpansSession shows mid cleaned
-        → IsLine line (parsed.Command (command.Call once)) → once.node ≡ node
+        → IsLineIn how line (parsed.Command (command.Call once)) → once.node ≡ node
         → Replies spans step world writes line cleaned (command.Call once) answer text new
         → AnswersFor old (command.Call call) text new
     closed : {slot : ℕ} {text : List ℕ} {new : SessionOver S} (answer : Reply)
@@ -79,8 +81,8 @@ pub data GivesBack {S : Type 0} (settles : S → S → Type 0) (old : SessionOve
 abbrev pub KnowsWhatIsGone : {S : Type 0} → SessionOver S → (is_gone : Bool) → SessionOver S → Type 0
 KnowsWhatIsGone old is_gone new = (new.slots ≡ old.slots) ⊎ (is_gone ≡ true)
 
-module _ {S : Type 0} (settles shows spans : S → S → Type 0) (step : S → Letter → S → Type 0) (world : S → World)
-    (writes : Writing S) (node : ℕ) (line : List ℕ) where
+module _ {S : Type 0} (how : Form) (settles shows spans : S → S → Type 0) (step : S → Letter → S → Type 0)
+    (world : S → World) (writes : Writing S) (node : ℕ) (line : List ℕ) where
   -- A command is answered after what others did was shown, and after that, with this behind the answer. Where the log's
   -- session ended meanwhile, it goes on in another one.
   pub record AnswersWith (ending : List ℕ) (old : SessionOver S) (c : Command) (text : List ℕ) (new : SessionOver S)
@@ -91,7 +93,7 @@ module _ {S : Type 0} (settles shows spans : S → S → Type 0) (step : S → L
     pub gives : GivesBack settles shown settled
     pub answered : SessionOver S
     pub output : List ℕ
-    pub answers : AnswersFor shows spans step world writes node line settled c output answered
+    pub answers : AnswersFor how shows spans step world writes node line settled c output answered
     pub are : text ≡ output ++ ending
     pub goes_on : GivesBack settles answered new
 
@@ -102,7 +104,7 @@ pub record BeginsAsAnswered {S : Type 0} (settles shows spans : S → S → Type
   pub output : List ℕ
   pub explanation : List ℕ
   pub are : text ≡ output ++ explanation
-  pub answers : AnswersWith settles shows spans step world WritesPlain node line []
+  pub answers : AnswersWith form.Plain settles shows spans step world WritesPlain node line []
       (shown_session (λ traced. traced.inner) old) c output (shown_session (λ traced. traced.inner) new)
 
 -- a session over this storage that has done nothing yet

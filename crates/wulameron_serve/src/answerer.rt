@@ -10,10 +10,10 @@ ghost use Rattle.iceoryx2_session.specs.Sessions.{AppliesBy, SessionOver};
 ghost use Rattle.iceoryx2_session.specs.SessionStates.{own_state};
 ghost use Rattle.iceoryx2_session.specs.StandingSlots.{IsOfOwn};
 ghost use Rattle.iceoryx2_testing.specs.Trace.{IsTracedAccess};
-ghost use Rattle.explain_serve.specs.Explained.{MayHaveReason, refusal_of};
 ghost use Rattle.explain_serve.specs.Traces.{TracedOver};
 ghost use Rattle.negotiate_lines.specs.declared.line.Line.TheVariants as parsed;
-ghost use Rattle.negotiate_lines.specs.Lines.{IsLine};
+ghost use Rattle.negotiate_lines.specs.declared.leaf.Form.TheVariants as written;
+ghost use Rattle.negotiate_lines.specs.Lines.{IsLineIn};
 ghost use Rattle.negotiate_serve.specs.Replies.{GrowsBy};
 ghost use Rattle.negotiate_serve.specs.Transcripts.{slot_named};
 ghost use Rattle.wulameron_place.specs.Halts.{is_of_start};
@@ -21,16 +21,18 @@ ghost use Rattle.wulameron_place.specs.Troubles.{or_gone};
 ghost use Rattle.wulameron_serve.specs.Lines.{IsUsable};
 ghost use Rattle.wulameron_serve.specs.Shared.{AnswersFor, AnswersWith, BeginsAsAnswered, GivesBack, KnowsWhatIsGone};
 ghost use Rattle.wulameron_serve.specs.Shared.{Replies, StandsFor, fresh_session, not_ours};
-ghost use Rattle.wulameron_serve.specs.Views.{WritesExplained};
+ghost use Rattle.wulameron_serve.specs.Views.{MayWrite, WritesExplained, writes_in};
 
 use crate::dead::{clean_dead, is_blocked};
 use crate::view::Viewed;
+use escaped_serve::reply::describe_escaped;
 use iceoryx2_commands::command::{Call, Command, Reply};
 use iceoryx2_description::config::Config;
 use iceoryx2_session::resuming::Resuming;
 use iceoryx2_session::session::Session;
 use iceoryx2_session::world_storage::WorldStorage;
-use negotiate_lines::line::{self, Line};
+use negotiate_lines::leaf::Form;
+use negotiate_lines::line::{Line, parse_in};
 use negotiate_serve::answerer::{Answerer, slot_of};
 use std::alloc::{AllocError, Global};
 use std::io::Write;
@@ -58,9 +60,9 @@ struct Carried {
 
 /// A session, the node in whose name its lines are, and who finds nodes that are dead. It has to be spent by `finish`.
 pub struct NodeAnswerer<S, D> {
-    node: u64,
-    session: Session<S>,
-    dead: D,
+    pub(crate) node: u64,
+    pub(crate) session: Session<S>,
+    pub(crate) dead: D,
     /// Whether the log has refused something, so that a command may have left something that no slot holds.
     may_owe: bool,
     /// Whether slots were emptied, since others gave back what the node had while the log's session was over.
@@ -113,6 +115,13 @@ impl<S: Viewed + Resuming + Troubled, D: DeadNodes + Drop> NodeAnswerer<S, D> {
         (session, dead)
     }
 
+    /// The node in whose name its lines are.
+    pub fn node(&self) -> u64
+        ensures { result ≡ self.now.node }
+    {
+        self.node
+    }
+
     /// Gives back what dead nodes have. True where anything was given back.
     pub fn clean(&mut self, alloc: Global) -> bool
         ensures node { self.new.node ≡ self.old.node }
@@ -132,7 +141,7 @@ impl<S: Viewed + Resuming + Troubled, D: DeadNodes + Drop> NodeAnswerer<S, D> {
 
     /// Gives back what the node has besides the factories of the slots, where a command may have left something. Where
     /// the log's session has ended it goes on in another one before.
-    fn settle(&mut self)
+    pub(crate) fn settle(&mut self)
         ensures node { self.new.node ≡ self.old.node }
         ensures gives { GivesBack S.settles (own_state self.old.session) (own_state self.new.session) }
         ensures stands { StandsFor S.world S.own S.ready self.old.node (own_state self.old.session)
@@ -146,7 +155,7 @@ impl<S: Viewed + Resuming + Troubled, D: DeadNodes + Drop> NodeAnswerer<S, D> {
     }
 
     /// Whether the log's session has ended.
-    fn is_cut(&self) -> bool {
+    pub(crate) fn is_cut(&self) -> bool {
         match self.storage().trouble() {
             Some(trouble) => trouble.is_cut(),
             None => false,
@@ -208,38 +217,55 @@ impl<S: Viewed + Resuming + Troubled, D: DeadNodes + Drop> NodeAnswerer<S, D> {
         Carried { reply, slot, made }
     }
 
-    /// Writes the reply to a line's command.
-    fn write(&self, line: &[u8], carried: &Carried, text: &mut String) -> Result<(), AllocError>
-        requires { MayHaveReason line.now (refusal_of carried.now.reply) }
+    /// Writes the reply to a line's command, in this form.
+    fn write(
+        &self,
+        form: Form,
+        line: &[u8],
+        carried: &Carried,
+        text: &mut String,
+    ) -> Result<(), AllocError>
+        requires { MayWrite form line.now carried.now.reply }
         ensures { (c : declared-command.Command) (first last : SessionOver S) → carried.now.slot ≡ slot_named c
             → S.ready first.table → AppliesBy S.step S.world first c carried.now.reply last
             → carried.now.made ≡ S.counted last.table - S.counted first.table
             → OnOk result (GrowsBy
-            (S.writes line.now c carried.now.reply first last (own_state self.now.session).table)
+            (writes_in form S.writes line.now c carried.now.reply first last (own_state self.now.session).table)
             (string_bytes text.old) (string_bytes text.new)) }
     {
-        self.storage()
-            .write_reply(line, carried.slot, &carried.reply, carried.made, text)
+        match form {
+            Form::Plain => self
+                .storage()
+                .write_reply(line, carried.slot, &carried.reply, carried.made, text),
+            Form::Escaped => describe_escaped(&carried.reply, carried.slot, text),
+        }
     }
 
-    /// Carries a line's command out, and writes the reply.
-    fn reply(&mut self, line: &[u8], command: Command, text: &mut String) -> Result<(), AllocError>
-        requires { IsLine line.now (parsed.Command command) }
+    /// Carries a line's command out, and writes the reply in this form.
+    fn reply(
+        &mut self,
+        form: Form,
+        line: &[u8],
+        command: Command,
+        text: &mut String,
+    ) -> Result<(), AllocError>
+        requires { IsLineIn form line.now (parsed.Command command) }
         ensures node { self.new.node ≡ self.old.node }
         ensures answered { S.ready (own_state self.old.session).table
-            → OnOk result (GrowsBy (λ output. (answer : declared-reply.Reply) × Replies S.spans S.step S.world S.writes
-            line.now (own_state self.old.session) command answer output (own_state self.new.session))
+            → OnOk result (GrowsBy (λ output. (answer : declared-reply.Reply) × Replies S.spans S.step S.world
+            (writes_in form S.writes) line.now (own_state self.old.session) command answer output
+            (own_state self.new.session))
             (string_bytes text.old) (string_bytes text.new)) }
         ensures stands { StandsFor S.world S.own S.ready self.old.node (own_state self.old.session)
             → IsOfOwn (S.own (own_state self.old.session).table) (own_state self.old.session).config command
             → StandsFor S.world S.own S.ready self.old.node (own_state self.new.session) }
     {
         let carried = self.carry_out(command);
-        self.write(line, &carried, text)
+        self.write(form, line, &carried, text)
     }
 
     /// The same, but not where the session had ended before: then no other one could be had.
-    fn go_on_unless(&mut self, was_cut: bool)
+    pub(crate) fn go_on_unless(&mut self, was_cut: bool)
         ensures node { self.new.node ≡ self.old.node }
         ensures gives { GivesBack S.settles (own_state self.old.session) (own_state self.new.session) }
         ensures stands { StandsFor S.world S.own S.ready self.old.node (own_state self.old.session)
@@ -251,14 +277,21 @@ impl<S: Viewed + Resuming + Troubled, D: DeadNodes + Drop> NodeAnswerer<S, D> {
         self.go_on();
     }
 
-    /// Answers a call, unless it is in the name of another node. Where a dead node may be why it is refused, what dead
-    /// nodes have is given back, and then it is made once more.
-    fn call(&mut self, line: &[u8], call: Call, text: &mut String) -> Result<(), AllocError>
-        requires { IsLine line.now (parsed.Command (command.Call call)) }
+    /// Answers a call of a line in this form, unless it is in the name of another node. Where a dead node may be why it
+    /// is refused, what dead nodes have is given back, and then it is made once more.
+    fn call(
+        &mut self,
+        form: Form,
+        line: &[u8],
+        call: Call,
+        text: &mut String,
+    ) -> Result<(), AllocError>
+        requires { IsLineIn form line.now (parsed.Command (command.Call call)) }
         ensures node { self.new.node ≡ self.old.node }
         ensures answered { StandsFor S.world S.own S.ready self.old.node (own_state self.old.session)
-            → OnOk result (GrowsBy (λ output. AnswersFor S.shows S.spans S.step S.world S.writes self.old.node line.now
-            (own_state self.old.session) (command.Call call) output (own_state self.new.session))
+            → OnOk result (GrowsBy (λ output. AnswersFor form S.shows S.spans S.step S.world
+            (writes_in form S.writes) self.old.node line.now (own_state self.old.session) (command.Call call) output
+            (own_state self.new.session))
             (string_bytes text.old) (string_bytes text.new)) }
         ensures stands { StandsFor S.world S.own S.ready self.old.node (own_state self.old.session)
             → StandsFor S.world S.own S.ready self.old.node (own_state self.new.session) }
@@ -269,21 +302,21 @@ impl<S: Viewed + Resuming + Troubled, D: DeadNodes + Drop> NodeAnswerer<S, D> {
         }
         let carried = self.carry_out(Command::Call(call));
         if !is_blocked(&carried.reply) {
-            return self.write(line, &carried, text);
+            return self.write(form, line, &carried, text);
         }
         let alloc = *text.allocator();
         if !self.clean(alloc) {
-            return self.write(line, &carried, text);
+            return self.write(form, line, &carried, text);
         }
-        match call_of(alloc, line, node) {
-            None => self.write(line, &carried, text),
-            Some(call) => self.reply(line, Command::Call(call), text),
+        match call_of(alloc, form, line, node) {
+            None => self.write(form, line, &carried, text),
+            Some(call) => self.reply(form, line, Command::Call(call), text),
         }
     }
 
     /// Shows what others have done up to now. The log isn't held meanwhile, so that a call has little to read while it
     /// holds the log.
-    fn look(&mut self)
+    pub(crate) fn look(&mut self)
         ensures node { self.new.node ≡ self.old.node }
         ensures shows { SpansSession S.shows (own_state self.old.session) (own_state self.new.session) }
         ensures stands { StandsFor S.world S.own S.ready self.old.node (own_state self.old.session)
@@ -292,26 +325,28 @@ impl<S: Viewed + Resuming + Troubled, D: DeadNodes + Drop> NodeAnswerer<S, D> {
         self.session.refresh();
     }
 
-    /// Answers a command, without what stands behind each answer.
-    fn answer_alone(
+    /// Answers a command of a line in this form, without what stands behind each answer.
+    pub(crate) fn answer_alone(
         &mut self,
+        form: Form,
         line: &[u8],
         command: Command,
         text: &mut String,
     ) -> Result<(), AllocError>
-        requires { IsLine line.now (parsed.Command command) }
+        requires { IsLineIn form line.now (parsed.Command command) }
         ensures node { self.new.node ≡ self.old.node }
         ensures answered { StandsFor S.world S.own S.ready self.old.node (own_state self.old.session)
-            → OnOk result (GrowsBy (λ output. AnswersFor S.shows S.spans S.step S.world S.writes self.old.node line.now
-            (own_state self.old.session) command output (own_state self.new.session))
+            → OnOk result (GrowsBy (λ output. AnswersFor form S.shows S.spans S.step S.world
+            (writes_in form S.writes) self.old.node line.now (own_state self.old.session) command output
+            (own_state self.new.session))
             (string_bytes text.old) (string_bytes text.new)) }
         ensures stands { StandsFor S.world S.own S.ready self.old.node (own_state self.old.session)
             → StandsFor S.world S.own S.ready self.old.node (own_state self.new.session) }
     {
         match command {
-            Command::Call(call) => self.call(line, call, text),
-            Command::Close { slot } => self.reply(line, Command::Close { slot }, text),
-            Command::List => self.reply(line, Command::List, text),
+            Command::Call(call) => self.call(form, line, call, text),
+            Command::Close { slot } => self.reply(form, line, Command::Close { slot }, text),
+            Command::List => self.reply(form, line, Command::List, text),
         }
     }
 }
@@ -349,11 +384,12 @@ impl<S: Viewed + Resuming + Troubled + Drop, D: DeadNodes + Drop> NodeAnswerer<S
     }
 }
 
-/// The call of a line, where it is one in the name of this node and there is memory for it.
-pub fn call_of(alloc: Global, line: &[u8], node: u64) -> Option<Call>
-    ensures { IfSome result (λ call. IsLine line.now (parsed.Command (command.Call call)) × (call.node ≡ node)) }
+/// The call of a line in this form, where it is one in the name of this node and there is memory for it.
+pub fn call_of(alloc: Global, form: Form, line: &[u8], node: u64) -> Option<Call>
+    ensures { IfSome result (λ call.
+        IsLineIn form line.now (parsed.Command (command.Call call)) × (call.node ≡ node)) }
 {
-    match line::parse(alloc, line) {
+    match parse_in(alloc, form, line) {
         Ok(Line::Command(Command::Call(call))) => {
             if call.node == node {
                 return Some(call);
@@ -367,8 +403,8 @@ pub fn call_of(alloc: Global, line: &[u8], node: u64) -> Option<Call>
 /// What others did is shown first, and what the node owes of earlier commands is given back. A call in the name of
 /// another node changes nothing.
 impl<S: Viewed + Resuming + Troubled, D: DeadNodes + Drop> Answerer for NodeAnswerer<S, D> {
-    ghost answers = { λ old line c text new. (new.node ≡ old.node) × AnswersWith S.settles S.shows S.spans S.step S.world
-        S.writes old.node line S.ending (own_state old.session) c text (own_state new.session) };
+    ghost answers = { λ old line c text new. (new.node ≡ old.node) × AnswersWith written.Plain S.settles S.shows S.spans
+        S.step S.world S.writes old.node line S.ending (own_state old.session) c text (own_state new.session) };
 
     ghost stands = { λ s. StandsFor S.world S.own S.ready s.node (own_state s.session) };
 
@@ -381,7 +417,7 @@ impl<S: Viewed + Resuming + Troubled, D: DeadNodes + Drop> Answerer for NodeAnsw
         self.look();
         self.settle();
         let was_cut = self.is_cut();
-        self.answer_alone(line, command, text)?;
+        self.answer_alone(Form::Plain, line, command, text)?;
         self.go_on_unless(was_cut);
         text.push_str(S::ending())
     }
@@ -399,7 +435,8 @@ impl<S: Viewed + Resuming + Troubled, D: DeadNodes + Drop> Troubled for NodeAnsw
 pub fn explanations<S: WorldStorage>()
     // It begins with what is written without explanations, over the storage inside.
     ensures { (node : ℕ) (line : List ℕ) (old new : TracedOver S) (c : declared-command.Command) (text : List ℕ)
-        → AnswersWith (SpansTraced S.settles) (SpansTraced S.shows) (SpansTraced S.spans) (IsTracedAccess S.step) (λ traced. S.world traced.inner)
+        → AnswersWith written.Plain (SpansTraced S.settles) (SpansTraced S.shows) (SpansTraced S.spans)
+        (IsTracedAccess S.step) (λ traced. S.world traced.inner)
         (WritesExplained S.step S.world) node line (codes "\n") old c text new
         → BeginsAsAnswered S.settles S.shows S.spans S.step S.world node line old c text new }
 {}

@@ -14,10 +14,25 @@
 //! program only with `--strict` (`MayEnd`). `NodeAnswerer::cleaned` ends by the log before the input is touched.
 //! `run::serve_log` starts the node first (`StartsLog`). Its line and status are exact (`status_with`). Of `run::run`,
 //! which opens the file, only that it is safe is proved.
+//!
+//! A node is also asked (`asked`): commands of escaped lines have escaped replies, and questions about the nodes, and
+//! of what dead ones have, their answers (`AsksWith`). `cleaning::answer_clean` gives back what dead nodes have, one after
+//! the other, and tells the sums (`CleansAsked`); a rehearsal does it in a world of its own (`RehearsesAsked`).
+//! `escaped::serve_escaped` writes the transcript of such lines (`ServesEscaped`). Where the log can't be used any more
+//! after one, it is told why in place of its reply (`TellsTrouble`), and no later line is answered. The private
+//! `escaped::serve_log` starts the node and greets first, or tells why not (`ServesEscapedLog`). `gone::refuse_session`
+//! tells that the sessions of before are gone.
 #![tactic(auto)]
 
 pub mod answerer;
+pub mod asked;
+pub mod cleaning;
 pub mod dead;
+pub mod escaped;
+pub mod gone;
 pub mod lines;
+pub mod nodes;
 pub mod run;
+pub mod telling;
+pub mod told_lines;
 pub mod view;

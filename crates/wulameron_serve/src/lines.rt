@@ -2,39 +2,38 @@
 
 ghost use Rattle.std.specs.Prelude.{◌≡◌, ℕ, List, Some, IfOk};
 ghost use Rattle.negotiate_serve.specs.Served.{AnswersAll, ServesLines};
-ghost use Rattle.negotiate_serve.specs.Transcripts.{LinesBy, MayEnd};
+ghost use Rattle.negotiate_serve.specs.Transcripts.{MayEnd};
 ghost use Rattle.wulameron_serve.specs.Lines.{AnswersWhileUsable, IsEndOf, IsUsable, seen_as};
 
 use negotiate_serve::answer::{Buffers, answer_next};
-use negotiate_serve::answerer::Answerer;
-use negotiate_serve::ending::{Ending, ServeError, WrongLines};
+use negotiate_serve::ending::{Ending, ServeError};
+use negotiate_serve::lines::Lines;
 use negotiate_serve::serve::write_failure;
 use std::io::{BufRead, BufReader, Read, Write};
 use wulameron_place::halt::Halt;
 use wulameron_place::reports::Reports;
 use wulameron_place::trouble::Troubled;
 
-/// Answers each line of an input, until it ends as in `serve_by`, or the log can't be used any more. A line that is
-/// neither blank nor a command ends it or has a reply, by `wrong_lines`. It writes what the answerer answers, such
-/// replies and nothing else, and tells what goes wrong at the log, after the line at which it does.
-pub fn serve_until<A: Answerer + Troubled, R: Read + Drop, W: Write, E: Write>(
+/// Answers each line of an input as such lines are, until it ends as in `serve_by`, or the log can't be used any more.
+/// It writes these answers and nothing else, and tells what goes wrong at the log, after the line at which it does.
+pub fn serve_until<A: Troubled, L: Lines<A>, R: Read + Drop, W: Write, E: Write>(
     input: R,
     output: &mut W,
     answerer: &mut A,
     reports: &mut Reports<'_, E>,
-    wrong_lines: WrongLines,
+    lines: &L,
 ) -> Result<Ending, Halt>
-    requires stands { A.stands answerer.old }
+    requires stands { L.stands answerer.old }
     requires usable { IsUsable (A.trouble answerer.old) }
     ensures serves { (bytes : List ℕ) → R.remaining input ≡ Some bytes → (unread : List ℕ)
-        × ServesLines (AnswersWhileUsable A.trouble (LinesBy wrong_lines A.answers)) answerer.old (seen_as result)
+        × ServesLines (AnswersWhileUsable A.trouble (L.lines lines.now)) answerer.old (seen_as result)
         bytes unread (W.contents output.old) (W.contents output.new) }
-    ensures may_end { IfOk result (MayEnd wrong_lines) }
-    ensures stands { A.stands answerer.new }
+    ensures may_end { IfOk result (MayEnd (L.ends_at_wrong lines.now)) }
+    ensures stands { L.stands answerer.new }
     ensures log { IsEndOf (A.trouble answerer.new) result }
 {
     match BufReader::new(reports.alloc(), input) {
-        Ok(mut reader) => serve_lines(&mut reader, output, answerer, reports, wrong_lines),
+        Ok(mut reader) => serve_lines(&mut reader, output, answerer, reports, lines),
         Err(error) => {
             let fault = write_failure(ServeError::of_reading(&error), output);
             Err(Halt::Serving(fault))
@@ -43,23 +42,23 @@ pub fn serve_until<A: Answerer + Troubled, R: Read + Drop, W: Write, E: Write>(
 }
 
 /// Answers each line that a reader has left, and writes a failure.
-fn serve_lines<A: Answerer + Troubled, R: BufRead, W: Write, E: Write>(
+fn serve_lines<A: Troubled, L: Lines<A>, R: BufRead, W: Write, E: Write>(
     reader: &mut R,
     output: &mut W,
     answerer: &mut A,
     reports: &mut Reports<'_, E>,
-    wrong_lines: WrongLines,
+    lines: &L,
 ) -> Result<Ending, Halt>
-    requires stands { A.stands answerer.old }
+    requires stands { L.stands answerer.old }
     requires usable { IsUsable (A.trouble answerer.old) }
     ensures serves { (input : List ℕ) → R.remaining reader.old ≡ Some input → (unread : List ℕ)
-        × ServesLines (AnswersWhileUsable A.trouble (LinesBy wrong_lines A.answers)) answerer.old (seen_as result)
+        × ServesLines (AnswersWhileUsable A.trouble (L.lines lines.now)) answerer.old (seen_as result)
         input unread (W.contents output.old) (W.contents output.new) }
-    ensures may_end { IfOk result (MayEnd wrong_lines) }
-    ensures stands { A.stands answerer.new }
+    ensures may_end { IfOk result (MayEnd (L.ends_at_wrong lines.now)) }
+    ensures stands { L.stands answerer.new }
     ensures log { IsEndOf (A.trouble answerer.new) result }
 {
-    match answer_lines(reader, output, answerer, reports, wrong_lines) {
+    match answer_lines(reader, output, answerer, reports, lines) {
         Ok(ending) => Ok(ending),
         Err(halt) => match halt {
             Halt::Log(trouble) => Err(Halt::Log(trouble)),
@@ -73,25 +72,25 @@ fn serve_lines<A: Answerer + Troubled, R: BufRead, W: Write, E: Write>(
 }
 
 /// Answers line after line. A failure isn't written here.
-fn answer_lines<A: Answerer + Troubled, R: BufRead, W: Write, E: Write>(
+fn answer_lines<A: Troubled, L: Lines<A>, R: BufRead, W: Write, E: Write>(
     reader: &mut R,
     output: &mut W,
     answerer: &mut A,
     reports: &mut Reports<'_, E>,
-    wrong_lines: WrongLines,
+    lines: &L,
 ) -> Result<Ending, Halt>
-    requires stands { A.stands answerer.old }
+    requires stands { L.stands answerer.old }
     requires usable { IsUsable (A.trouble answerer.old) }
     ensures answered { (input : List ℕ) → R.remaining reader.old ≡ Some input
-        → AnswersAll (AnswersWhileUsable A.trouble (LinesBy wrong_lines A.answers)) answerer.old (seen_as result) input
+        → AnswersAll (AnswersWhileUsable A.trouble (L.lines lines.now)) answerer.old (seen_as result) input
         (R.remaining reader.new) (W.contents output.old) (W.contents output.new) }
-    ensures may_end { IfOk result (MayEnd wrong_lines) }
-    ensures stands { A.stands answerer.new }
+    ensures may_end { IfOk result (MayEnd (L.ends_at_wrong lines.now)) }
+    ensures stands { L.stands answerer.new }
     ensures log { IsEndOf (A.trouble answerer.new) result }
 {
     let mut buffers = Buffers::new(reports.alloc());
     for number in 1..u64::MAX {
-        let ending = answer_next(number, wrong_lines, reader, output, answerer, &mut buffers)?;
+        let ending = answer_next(number, lines, reader, output, answerer, &mut buffers)?;
         if let Some(ending) = ending {
             return Ok(ending);
         }

@@ -88,7 +88,7 @@ fn wrong_lines_of(strict: bool, explains: bool) -> WrongLines
 
 /// Tells the failure or what is wrong with a line, and gives the status. Of a log that can't be used any more the line
 /// was written before.
-fn report_end<E: Write>(ended: Result<Ending, Halt>, reports: &mut Reports<'_, E>) -> u8
+pub(crate) fn report_end<E: Write>(ended: Result<Ending, Halt>, reports: &mut Reports<'_, E>) -> u8
     ensures { result ≡ status_with ended }
 {
     match ended {
@@ -142,7 +142,7 @@ fn serve_log<
 /// Gives back what the node still has after all was closed. What goes wrong at the log is told.
 ///
 /// `Halt` where lines were served so, and `Owing` where something of the node stays.
-fn settle_end<S: WorldStorage + Troubled + Drop, E: Write>(
+pub(crate) fn settle_end<S: WorldStorage + Troubled + Drop, E: Write>(
     node: u64,
     served: Result<Ending, Halt>,
     storage: S,
@@ -185,6 +185,6 @@ pub fn serve<
         (own_state answerer.session) result.0 result.1 bytes (W.contents output.old) (W.contents output.new) }
 {
     let mut answerer = answerer;
-    let ended = serve_until(input, output, &mut answerer, reports, wrong_lines);
+    let ended = serve_until(input, output, &mut answerer, reports, &wrong_lines);
     (ended, answerer.finish())
 }

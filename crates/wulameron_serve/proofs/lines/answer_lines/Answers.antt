@@ -3,14 +3,13 @@ use Rattle.negotiate_serve.specs.declared.ending.Ending.{Ending}
 use Rattle.negotiate_serve.specs.declared.ending.ServeError.{ServeError}
 use Rattle.negotiate_serve.specs.Served.{AnswersAll}
 use Rattle.negotiate_serve.proofs.Answering.{nothing_so_far, turn_goes_on, turn_ends, turn_fails, too_many}
-use Rattle.negotiate_serve.specs.Transcripts.{LinesBy}
 use Rattle.wulameron_serve.specs.Lines.{AnswersWhileUsable}
 use Rattle.wulameron_serve.proofs.UntilHalted.{seen_failure, serving_is_no_end, log_ends, turn_also}
 use Rattle.wulameron_serve.proofs.lines.answer_lines.Goals as goal
 
 pub loop-number-init : goal.loop-number-init
 loop-number-init g c = record {
-  answered = λ input known. nothing_so_far (AnswersWhileUsable g.A.Troubled.trouble (LinesBy c.args.wrong_lines g.A.Answerer.answers)) c.args.answerer.now input (g.R.Read.remaining c.args.reader.now)
+  answered = λ input known. nothing_so_far (AnswersWhileUsable g.A.Troubled.trouble (g.L.Lines.lines c.args.lines.now)) c.args.answerer.now input (g.R.Read.remaining c.args.reader.now)
       (g.W.Write.contents c.args.output.now) known;
   stands = c.requires.stands;
   usable = c.requires.usable;
@@ -20,13 +19,13 @@ pub loop-number-preserved : goal.loop-number-preserved
 loop-number-preserved g c = record {
   answered = λ input known.
       let a = c.loop-number.invariant.answered input known in
-      let Usable = AnswersWhileUsable g.A.Troubled.trouble (LinesBy c.args.wrong_lines g.A.Answerer.answers) in
+      let Usable = AnswersWhileUsable g.A.Troubled.trouble (g.L.Lines.lines c.args.lines.now) in
       let left = g.R.Read.remaining c.answer_next.new.reader in
       let mid = g.W.Write.contents c.loop-number.output in
       let new = g.W.Write.contents c.answer_next.new.output in
       turn_goes_on Usable c.args.answerer.now input c.loop-number.number (g.R.Read.remaining c.loop-number.reader) left (g.W.Write.contents c.args.output.now) mid new
       c.loop-number.answerer c.answer_next.new.answerer a _ c.in_ok-ending.ending
-      (turn_also (LinesBy c.args.wrong_lines g.A.Answerer.answers) Usable c.loop-number.answerer (λ line text n by. (c.loop-number.invariant.usable, by)) (Ok c.in_ok-ending.ending)
+      (turn_also (g.L.Lines.lines c.args.lines.now) Usable c.loop-number.answerer (λ line text n by. (c.loop-number.invariant.usable, by)) (Ok c.in_ok-ending.ending)
       c.loop-number.number a.rest left c.answer_next.new.answerer mid new (c.in_ok-ending.ensures.turn c.loop-number.invariant.stands a.rest a.left_is)) (search rules) refl;
   stands = c.answer_next.ensures.stands c.loop-number.invariant.stands;
   usable = sym c.look.ensures ∙ search rules;
@@ -35,7 +34,7 @@ loop-number-preserved g c = record {
 pub returns-in_err-ending-clause-answered : goal.returns-in_err-ending-clause-answered
 returns-in_err-ending-clause-answered g c = λ input known.
     let a = c.loop-number.invariant.answered input known in
-    let Usable = AnswersWhileUsable g.A.Troubled.trouble (LinesBy c.args.wrong_lines g.A.Answerer.answers) in
+    let Usable = AnswersWhileUsable g.A.Troubled.trouble (g.L.Lines.lines c.args.lines.now) in
     let next = g.R.Read.remaining c.answer_next.new.reader in
     let old = g.W.Write.contents c.args.output.now in
     let mid = g.W.Write.contents c.loop-number.output in
@@ -45,7 +44,7 @@ returns-in_err-ending-clause-answered g c = λ input known.
     (sym (seen_failure c.from_residual.result fault c.from_residual.ensures.1))
     (turn_fails Usable c.args.answerer.now input c.loop-number.number (g.R.Read.remaining c.loop-number.reader) next old mid new
     c.loop-number.answerer c.answer_next.new.answerer a fault
-    (turn_also (LinesBy c.args.wrong_lines g.A.Answerer.answers) Usable c.loop-number.answerer (λ line text n by. (c.loop-number.invariant.usable, by)) (Err fault)
+    (turn_also (g.L.Lines.lines c.args.lines.now) Usable c.loop-number.answerer (λ line text n by. (c.loop-number.invariant.usable, by)) (Err fault)
     c.loop-number.number a.rest next c.answer_next.new.answerer mid new (c.in_err-ending.ensures.turn c.loop-number.invariant.stands a.rest a.left_is)))
 
 pub returns-in_err-ending-clause-stands : goal.returns-in_err-ending-clause-stands
@@ -57,13 +56,13 @@ returns-in_err-ending-clause-log g c = serving_is_no_end (g.A.Troubled.trouble c
 pub returns-in-Some-clause-answered : goal.returns-in-Some-clause-answered
 returns-in-Some-clause-answered g c = λ input known.
     let a = c.loop-number.invariant.answered input known in
-    let Usable = AnswersWhileUsable g.A.Troubled.trouble (LinesBy c.args.wrong_lines g.A.Answerer.answers) in
+    let Usable = AnswersWhileUsable g.A.Troubled.trouble (g.L.Lines.lines c.args.lines.now) in
     let left = g.R.Read.remaining c.answer_next.new.reader in
     let mid = g.W.Write.contents c.loop-number.output in
     let new = g.W.Write.contents c.answer_next.new.output in
     turn_ends Usable c.args.answerer.now input c.loop-number.number (g.R.Read.remaining c.loop-number.reader) left (g.W.Write.contents c.args.output.now) mid new
     c.loop-number.answerer c.answer_next.new.answerer a c.in_ok-ending.ending c.in-Some.ending
-    (turn_also (LinesBy c.args.wrong_lines g.A.Answerer.answers) Usable c.loop-number.answerer (λ line text n by. (c.loop-number.invariant.usable, by)) (Ok c.in_ok-ending.ending)
+    (turn_also (g.L.Lines.lines c.args.lines.now) Usable c.loop-number.answerer (λ line text n by. (c.loop-number.invariant.usable, by)) (Ok c.in_ok-ending.ending)
     c.loop-number.number a.rest left c.answer_next.new.answerer mid new (c.in_ok-ending.ensures.turn c.loop-number.invariant.stands a.rest a.left_is)) c.in-Some.is
 
 pub returns-in-Some-clause-stands : goal.returns-in-Some-clause-stands
@@ -71,7 +70,7 @@ returns-in-Some-clause-stands g c = c.answer_next.ensures.stands c.loop-number.i
 
 pub returns-clause-answered : goal.returns-clause-answered
 returns-clause-answered g c = λ input known.
-    too_many (AnswersWhileUsable g.A.Troubled.trouble (LinesBy c.args.wrong_lines g.A.Answerer.answers)) c.args.answerer.now input c.loop-number.number (g.R.Read.remaining c.loop-number.reader)
+    too_many (AnswersWhileUsable g.A.Troubled.trouble (g.L.Lines.lines c.args.lines.now)) c.args.answerer.now input c.loop-number.number (g.R.Read.remaining c.loop-number.reader)
     (g.R.Read.remaining c.loop-number.reader) (g.W.Write.contents c.args.output.now) (g.W.Write.contents c.loop-number.output) c.loop-number.answerer
     (omega (arith, c.loop-number-test.false, c.loop-number.auto.number-end)) (c.loop-number.invariant.answered input known)
 
@@ -81,7 +80,7 @@ returns-clause-stands g c = c.loop-number.invariant.stands
 pub returns-in-Some-look-clause-answered : goal.returns-in-Some-look-clause-answered
 returns-in-Some-look-clause-answered g c = λ input known.
     let a = c.loop-number.invariant.answered input known in
-    let Usable = AnswersWhileUsable g.A.Troubled.trouble (LinesBy c.args.wrong_lines g.A.Answerer.answers) in
+    let Usable = AnswersWhileUsable g.A.Troubled.trouble (g.L.Lines.lines c.args.lines.now) in
     let left = g.R.Read.remaining c.answer_next.new.reader in
     let old = g.W.Write.contents c.args.output.now in
     let mid = g.W.Write.contents c.loop-number.output in
@@ -89,7 +88,7 @@ returns-in-Some-look-clause-answered g c = λ input known.
     log_ends Usable c.args.answerer.now input (c.loop-number.number + 1) left old new c.answer_next.new.answerer
     (turn_goes_on Usable c.args.answerer.now input c.loop-number.number (g.R.Read.remaining c.loop-number.reader) left old mid new
     c.loop-number.answerer c.answer_next.new.answerer a (c.loop-number.number + 1) c.in_ok-ending.ending
-    (turn_also (LinesBy c.args.wrong_lines g.A.Answerer.answers) Usable c.loop-number.answerer (λ line text n by. (c.loop-number.invariant.usable, by)) (Ok c.in_ok-ending.ending)
+    (turn_also (g.L.Lines.lines c.args.lines.now) Usable c.loop-number.answerer (λ line text n by. (c.loop-number.invariant.usable, by)) (Ok c.in_ok-ending.ending)
     c.loop-number.number a.rest left c.answer_next.new.answerer mid new (c.in_ok-ending.ensures.turn c.loop-number.invariant.stands a.rest a.left_is)) (search rules) refl)
 
 pub returns-in-Some-look-clause-stands : goal.returns-in-Some-look-clause-stands

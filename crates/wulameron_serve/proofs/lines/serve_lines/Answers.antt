@@ -2,14 +2,13 @@ use Rattle.std.proofs.Common.{Err, subst}
 use Rattle.negotiate_serve.specs.Served.{AnswersAll}
 use Rattle.negotiate_serve.proofs.Answering.{served, served_to_failure}
 use Rattle.wulameron_place.specs.declared.halt.Halt.{Halt}
-use Rattle.negotiate_serve.specs.Transcripts.{LinesBy}
 use Rattle.wulameron_serve.specs.Lines.{AnswersWhileUsable, IsEndOf, seen_as}
 use Rattle.wulameron_serve.proofs.UntilHalted.{served_to_halt}
 use Rattle.wulameron_serve.proofs.lines.serve_lines.Goals as goal
 
 pub returns-in-Ok-clause-serves : goal.returns-in-Ok-clause-serves
 returns-in-Ok-clause-serves g c = λ input known.
-    let done = served (AnswersWhileUsable g.A.Troubled.trouble (LinesBy c.args.wrong_lines g.A.Answerer.answers)) c.args.answerer.now input c.in-Ok.ending (g.R.Read.remaining c.answer_lines.new.reader)
+    let done = served (AnswersWhileUsable g.A.Troubled.trouble (g.L.Lines.lines c.args.lines.now)) c.args.answerer.now input c.in-Ok.ending (g.R.Read.remaining c.answer_lines.new.reader)
     (g.W.Write.contents c.args.output.now) (g.W.Write.contents c.answer_lines.new.output) (c.in-Ok.ensures.answered input known) in
     (done.0, done.1)
 
@@ -18,7 +17,7 @@ returns-in-Ok-clause-stands g c = c.answer_lines.ensures.stands
 
 pub returns-in-Log-clause-serves : goal.returns-in-Log-clause-serves
 returns-in-Log-clause-serves g c = λ input known.
-    let Usable = AnswersWhileUsable g.A.Troubled.trouble (LinesBy c.args.wrong_lines g.A.Answerer.answers) in
+    let Usable = AnswersWhileUsable g.A.Troubled.trouble (g.L.Lines.lines c.args.lines.now) in
     let left = g.R.Read.remaining c.answer_lines.new.reader in
     let old = g.W.Write.contents c.args.output.now in
     let new = g.W.Write.contents c.answer_lines.new.output in
@@ -33,7 +32,7 @@ returns-in-Log-clause-log g c = subst (λ (h : Halt). IsEndOf (g.A.Troubled.trou
 
 pub returns-in-Owing-clause-serves : goal.returns-in-Owing-clause-serves
 returns-in-Owing-clause-serves g c = λ input known.
-    let Usable = AnswersWhileUsable g.A.Troubled.trouble (LinesBy c.args.wrong_lines g.A.Answerer.answers) in
+    let Usable = AnswersWhileUsable g.A.Troubled.trouble (g.L.Lines.lines c.args.lines.now) in
     let left = g.R.Read.remaining c.answer_lines.new.reader in
     let old = g.W.Write.contents c.args.output.now in
     let new = g.W.Write.contents c.answer_lines.new.output in
@@ -48,7 +47,7 @@ returns-in-Owing-clause-log g c = subst (λ (h : Halt). IsEndOf (g.A.Troubled.tr
 
 pub returns-in-Serving-clause-serves : goal.returns-in-Serving-clause-serves
 returns-in-Serving-clause-serves g c = λ input known.
-    let Usable = AnswersWhileUsable g.A.Troubled.trouble (LinesBy c.args.wrong_lines g.A.Answerer.answers) in
+    let Usable = AnswersWhileUsable g.A.Troubled.trouble (g.L.Lines.lines c.args.lines.now) in
     let left = g.R.Read.remaining c.answer_lines.new.reader in
     let old = g.W.Write.contents c.args.output.now in
     let mid = g.W.Write.contents c.answer_lines.new.output in

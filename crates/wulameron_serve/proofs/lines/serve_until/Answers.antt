@@ -1,6 +1,5 @@
 use Rattle.std.proofs.Common.{ap, ◌∙◌}
 use Rattle.negotiate_serve.proofs.Answering.{read_ahead, served_nothing}
-use Rattle.negotiate_serve.specs.Transcripts.{LinesBy}
 use Rattle.wulameron_serve.specs.Lines.{AnswersWhileUsable}
 use Rattle.wulameron_serve.proofs.lines.serve_until.Goals as goal
 
@@ -12,5 +11,5 @@ returns-in-Ok-clause-serves g c = λ bytes known.
 
 pub returns-in-Err-clause-serves : goal.returns-in-Err-clause-serves
 returns-in-Err-clause-serves g c = λ bytes known.
-    served_nothing (AnswersWhileUsable g.A.Troubled.trouble (LinesBy c.args.wrong_lines g.A.Answerer.answers)) c.args.answerer.now bytes c.of_reading.result c.write_failure-fault.result
+    served_nothing (AnswersWhileUsable g.A.Troubled.trouble (g.L.Lines.lines c.args.lines.now)) c.args.answerer.now bytes c.of_reading.result c.write_failure-fault.result
     (g.W.Write.contents c.args.output.now) (g.W.Write.contents c.write_failure-fault.new.output) c.of_reading.ensures.of_reading c.write_failure-fault.ensures

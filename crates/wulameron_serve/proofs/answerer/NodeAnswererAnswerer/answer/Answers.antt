@@ -1,6 +1,7 @@
 use Rattle.std.proofs.Common.{◌≡◌, ◌++◌, ℕ, List, if◌then◌else◌, string_bytes, refl, sym, subst, ◌∙◌}
 use Rattle.std.specs.Result.{is_ok}
 use Rattle.iceoryx2_session.specs.SessionStates.{own_state}
+use Rattle.negotiate_lines.specs.declared.leaf.Form.TheVariants as form
 use Rattle.wulameron_serve.specs.Shared.{AnswersFor}
 use Rattle.wulameron_serve.proofs.NodeAnswers.{AnswersNode, answers_ended, renamed}
 use Rattle.wulameron_serve.proofs.answerer.NodeAnswererAnswerer.answer.Goals as goal
@@ -17,7 +18,7 @@ returns-clause-answered g c = λ before.
     let shown_stands = renamed W O R (sym c.look.ensures.node) shown (c.look.ensures.stands before) in
     let named = c.settle.ensures.node ∙ c.look.ensures.node in
     answers_ended (AnswersNode g.S.WorldStorage.settles g.S.WorldStorage.shows g.S.WorldStorage.spans g.S.Storage.step W g.S.Viewed.writes g.S.Viewed.ending) c.args.self.now c.go_on_unless.new.self line c.args.command
-    (λ output. AnswersFor g.S.WorldStorage.shows g.S.WorldStorage.spans g.S.Storage.step W g.S.Viewed.writes c.settle.new.self.node line settled c.args.command output answered) g.S.Viewed.ending
+    (λ output. AnswersFor form.Plain g.S.WorldStorage.shows g.S.WorldStorage.spans g.S.Storage.step W g.S.Viewed.writes c.settle.new.self.node line settled c.args.command output answered) g.S.Viewed.ending
     (λ output answers. (
       c.go_on_unless.ensures.node ∙ c.answer_alone.ensures.node ∙ named,
       record {
@@ -27,7 +28,7 @@ returns-clause-answered g c = λ before.
         gives = c.settle.ensures.gives;
         answered = answered;
         output = output;
-        answers = subst (λ (n : ℕ). AnswersFor g.S.WorldStorage.shows g.S.WorldStorage.spans g.S.Storage.step W g.S.Viewed.writes n line settled c.args.command output answered) named answers;
+        answers = subst (λ (n : ℕ). AnswersFor form.Plain g.S.WorldStorage.shows g.S.WorldStorage.spans g.S.Storage.step W g.S.Viewed.writes n line settled c.args.command output answered) named answers;
         are = refl;
         goes_on = c.go_on_unless.ensures.gives;
       },

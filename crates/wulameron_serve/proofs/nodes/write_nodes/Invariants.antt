@@ -1,0 +1,8 @@
+use Rattle.std.proofs.Common.{◌≡◌, ◌++◌, take, string_bytes}
+use Rattle.std.specs.List.{flat_map}
+use Rattle.wulameron_serve.specs.Nodes.{node_word}
+use Rattle.wulameron_serve.proofs.nodes.write_nodes.Given as goal
+
+abbrev pub invariant-loop-status : goal.invariant-loop-status
+invariant-loop-status l =
+    string_bytes l.text ≡ string_bytes l.fn.text ++ flat_map node_word (take l.status-index l.nodes)

@@ -1,0 +1,250 @@
+//! The whole program where its lines are escaped: an input in, its answers out, over the log of a place.
+
+ghost use Rattle.std.specs.Prelude.{◌≡◌, ℕ, List, OnErr, OnOk, Ok, Some};
+ghost use Rattle.iceoryx2_session.specs.SessionStates.{own_state};
+ghost use Rattle.negotiate_serve.specs.Outputs.{Writes};
+ghost use Rattle.wulameron_place.specs.Troubles.{or_gone};
+ghost use Rattle.wulameron_place.specs.declared.halt.Halt.TheVariants as halt;
+ghost use Rattle.wulameron_serve.specs.Lines.{IsUsable};
+ghost use Rattle.wulameron_serve.specs.Served.{IsStartReply, NotGreeted, ServesEscaped, ServesEscapedLog};
+ghost use Rattle.wulameron_serve.specs.Served.{ServesGreeted, ServesSettled};
+ghost use Rattle.wulameron_serve.specs.Shared.{StandsFor};
+ghost use Rattle.wulameron_serve.specs.Telling.{IsTaken, greeting_of, told_or_no_memory};
+
+use crate::answerer::NodeAnswerer;
+use crate::lines::serve_until;
+use crate::nodes::SharedNodes;
+use crate::run::{report_end, settle_end};
+use crate::telling::{greeting, tell_trouble, tell_unclaimed, tell_wrong};
+use crate::told_lines::ToldLines;
+use crate::view::Viewed;
+use escaped_serve::lines::EscapedLines;
+use iceoryx2_log::call_log::SpansCalls;
+use iceoryx2_session::resuming::{Renewing, Resuming};
+use negotiate_serve::ending::{Ending, FAULT, ServeError};
+use negotiate_serve::output::write_out;
+use std::alloc::{AllocError, Global};
+use std::fmt;
+use std::fs::File;
+use std::io::{self, Read, Write};
+use std::random::RandomSource;
+use std::rt::Files;
+use std::time::Clock;
+use wulameron_arguments::asked::Run;
+use wulameron_place::claims::claim_node;
+use wulameron_place::dead::PlaceNodes;
+use wulameron_place::halt::Halt;
+use wulameron_place::node_log::NodeLog;
+use wulameron_place::opening::opened;
+use wulameron_place::reports::Reports;
+use wulameron_place::trouble::{Refusing, Trouble, Troubled};
+
+/// What is told where there is no memory for more.
+const NO_MEMORY: &str = "out of memory\n";
+
+/// Answers the lines of an input, whose leaves are escaped, and its questions, over the log of a place, which is made
+/// where there is none. The node is claimed as long. The first line that is written answers nothing: it tells the node,
+/// or why there is none. What the slots hold is closed at the end.
+///
+/// Gives the status with which the program ends: 0 at the end of the input; or 3 where it didn't begin, reading or
+/// writing failed, the log can't be used any more, or something of the node stays.
+pub fn run_escaped<
+    F: Files<File = File> + Clock + RandomSource + AllocGlobal + Drop,
+    R: Read + Drop,
+    W: Write,
+>(rt: F, run: &Run<'_>, input: R, output: &mut W) -> u8 {
+    match claim_node(&rt, run.place, run.node) {
+        Ok(claim) => {
+            let status = run_as(&rt, claim.node(), run, input, output);
+            drop(claim);
+            status
+        }
+        Err(error) => {
+            let mut text = String::new(rt.alloc());
+            let told = tell_unclaimed(&error, &mut text);
+            end_with(told, &text, output)
+        }
+    }
+}
+
+/// Writes a line by which the program ends, or that there was no memory for it, and gives the status.
+fn end_with<W: Write>(told: Result<(), AllocError>, line: &str, output: &mut W) -> u8
+    ensures status { result ≡ 3 }
+    ensures told { IsTaken (told_or_no_memory told line.now) (W.contents output.old) (W.contents output.new) }
+{
+    match told {
+        Ok(()) => {
+            let _ = write_out(line.as_bytes(), output);
+            FAULT
+        }
+        Err(_) => {
+            let _ = write_out(NO_MEMORY.as_bytes(), output);
+            FAULT
+        }
+    }
+}
+
+/// Writes why the log can't be used, and gives the status.
+pub fn refuse_log<W: Write>(alloc: Global, trouble: Trouble, output: &mut W) -> u8
+    ensures status { result ≡ 3 }
+    ensures told { (text : List ℕ) × IsStartReply (halt.Log trouble) text
+        × IsTaken text (W.contents output.old) (W.contents output.new) }
+{
+    let mut text = String::new(alloc);
+    let told = tell_trouble(trouble, &mut text);
+    end_with(told, &text, output)
+}
+
+/// Writes what is wrong with the log's folder, which has this path, and gives the status.
+pub fn refuse_folder<X: fmt::Display + Copy, W: Write>(
+    alloc: Global,
+    path: &str,
+    wrong: X,
+    output: &mut W,
+) -> u8 {
+    let mut text = String::new(alloc);
+    let told = tell_wrong(path, wrong, &mut text);
+    end_with(told, &text, output)
+}
+
+/// The same for a node that is claimed.
+fn run_as<F: Files<File = File> + Clock + RandomSource + AllocGlobal, R: Read + Drop, W: Write>(
+    rt: &F,
+    node: u64,
+    run: &Run<'_>,
+    input: R,
+    output: &mut W,
+) -> u8 {
+    let place = run.place;
+    match opened(rt, place) {
+        Ok(log) => {
+            let dead = PlaceNodes {
+                rt,
+                place,
+                cleans: run.cleans,
+            };
+            serve_log(rt.alloc(), log.for_node(node), dead, input, output)
+        }
+        Err(trouble) => refuse_log(rt.alloc(), trouble, output),
+    }
+}
+
+/// Writes why a node isn't started, and gives the status.
+fn refuse_start<W: Write>(alloc: Global, halt: Halt, output: &mut W) -> u8
+    ensures status { result ≡ 3 }
+    ensures told { (text : List ℕ) × IsStartReply halt text
+        × IsTaken text (W.contents output.old) (W.contents output.new) }
+{
+    match halt {
+        Halt::Log(trouble) => refuse_log(alloc, trouble, output),
+        _ => end_with(Err(AllocError), "", output),
+    }
+}
+
+/// The same over a log that is open. Nothing is told but on the output.
+fn serve_log<
+    L: Refusing + Renewing + SpansCalls + Drop,
+    D: SharedNodes + Drop,
+    R: Read + Drop,
+    W: Write,
+>(alloc: Global, log: NodeLog<L>, dead: D, input: R, output: &mut W) -> u8
+    ensures { (bytes : List ℕ) → R.remaining input ≡ Some bytes
+        → ServesEscapedLog L.contents L.held L.refused log.log log.counter log.node D result bytes
+        (W.contents output.old) (W.contents output.new) }
+{
+    let mut no_lines = Reports::new(alloc, "", io::sink());
+    let node = log.node;
+    match log.start(alloc, &mut no_lines) {
+        Ok(journal) => match NodeAnswerer::cleaned(node, journal, dead, &mut no_lines) {
+            Ok(answerer) => serve_started(alloc, answerer, input, output),
+            Err(halt) => refuse_start(alloc, halt, output),
+        },
+        Err(halt) => refuse_start(alloc, halt, output),
+    }
+}
+
+/// Writes the greeting of a node.
+///
+/// `ServeError` as `write_out` does, and where there is no memory for it, which is written.
+fn greet<W: Write>(alloc: Global, node: u64, output: &mut W) -> Result<(), ServeError>
+    ensures greeted { OnOk result
+        (Writes (greeting_of node) (Ok tt) (W.contents output.old) (W.contents output.new)) }
+    ensures not { OnErr result (NotGreeted node (W.contents output.old) (W.contents output.new)) }
+{
+    match greeting(alloc, node) {
+        Ok(line) => write_out(line.as_bytes(), output),
+        Err(_) => {
+            let _ = write_out(NO_MEMORY.as_bytes(), output);
+            Err(ServeError::OutOfMemory)
+        }
+    }
+}
+
+/// Greets, answers each line, closes what is open, and gives back what the node has still.
+fn serve_started<
+    S: Viewed + Resuming + Troubled + Drop,
+    D: SharedNodes + Drop,
+    R: Read + Drop,
+    W: Write,
+>(alloc: Global, answerer: NodeAnswerer<S, D>, input: R, output: &mut W) -> u8
+    requires stands { StandsFor S.world S.own S.ready answerer.node (own_state answerer.session) }
+    requires usable { IsUsable (or_gone answerer.is_gone (S.trouble (own_state answerer.session).table)) }
+    ensures { (bytes : List ℕ) → R.remaining input ≡ Some bytes
+        → ServesGreeted S.settles S.shows S.spans S.step S.world S.trouble S.writes S.ending S.is_settled answerer.node
+        answerer result bytes (W.contents output.old) (W.contents output.new) }
+{
+    match greet(alloc, answerer.node(), output) {
+        Ok(()) => serve_greeted(alloc, answerer, input, output),
+        Err(_) => {
+            drop(answerer.finish());
+            FAULT
+        }
+    }
+}
+
+/// The same without the greeting.
+fn serve_greeted<
+    S: Viewed + Resuming + Troubled + Drop,
+    D: SharedNodes + Drop,
+    R: Read + Drop,
+    W: Write,
+>(alloc: Global, answerer: NodeAnswerer<S, D>, input: R, output: &mut W) -> u8
+    requires stands { StandsFor S.world S.own S.ready answerer.node (own_state answerer.session) }
+    requires usable { IsUsable (or_gone answerer.is_gone (S.trouble (own_state answerer.session).table)) }
+    ensures { (bytes : List ℕ) → R.remaining input ≡ Some bytes
+        → ServesSettled S.settles S.shows S.spans S.step S.world S.trouble S.writes S.ending S.is_settled answerer.node
+        answerer result bytes (W.contents output.old) (W.contents output.new) }
+{
+    let mut no_lines = Reports::new(alloc, "", io::sink());
+    let node = answerer.node();
+    let (served, storage) = serve_escaped(answerer, input, output, &mut no_lines);
+    let ended = settle_end(node, served, storage, &mut no_lines);
+    report_end(ended, &mut no_lines)
+}
+
+/// Answers each escaped line of an input, and closes all that is open then, whatever ended it. Gives the storage back.
+pub fn serve_escaped<
+    S: Viewed + Resuming + Troubled,
+    D: SharedNodes + Drop,
+    R: Read + Drop,
+    W: Write,
+    E: Write,
+>(
+    answerer: NodeAnswerer<S, D>,
+    input: R,
+    output: &mut W,
+    reports: &mut Reports<'_, E>,
+) -> (Result<Ending, Halt>, S)
+    requires stands { StandsFor S.world S.own S.ready answerer.node (own_state answerer.session) }
+    requires usable { IsUsable (or_gone answerer.is_gone (S.trouble (own_state answerer.session).table)) }
+    ensures { (bytes : List ℕ) → R.remaining input ≡ Some bytes
+        → ServesEscaped S.settles S.shows S.spans S.step S.world S.trouble S.writes S.ending answerer
+        result.0 result.1 bytes (W.contents output.old) (W.contents output.new) }
+{
+    let mut answerer = answerer;
+    let lines = ToldLines {
+        lines: EscapedLines,
+    };
+    let ended = serve_until(input, output, &mut answerer, reports, &lines);
+    (ended, answerer.finish())
+}

@@ -1,0 +1,30 @@
+//! What a program is told that starts the session of before, in frames.
+
+ghost use Rattle.std.specs.Prelude.{◌≡◌};
+ghost use Rattle.wulameron_serve.specs.Gone.{gone_line, other_version};
+ghost use Rattle.wulameron_serve.specs.Telling.{IsTaken};
+
+use negotiate_serve::ending::NOT_A_COMMAND;
+use negotiate_serve::output::write_out;
+use std::io::Write;
+
+/// What the writer of errors has.
+const GONE: &str = "wulameron: session is gone; write lines to wulameron run --escaped\n";
+
+/// A frame of another version than a library of before has: the number 0, the number 2, and forty zero bytes.
+const OTHER_VERSION: [u8; 48] = [
+    0, 0, 0, 0, 2, 0, 0, 0, 0, 0, 0, 0, 0, 0, 0, 0, 0, 0, 0, 0, 0, 0, 0, 0, 0, 0, 0, 0, 0, 0, 0, 0,
+    0, 0, 0, 0, 0, 0, 0, 0, 0, 0, 0, 0, 0, 0, 0, 0,
+];
+
+/// Tells that there are no sessions in frames any more, to who reads lines and to a library of before, and gives the
+/// status. What can't be written is left out.
+pub fn refuse_session<W: Write, E: Write>(output: &mut W, errors: &mut E) -> u8
+    ensures status { result ≡ 2 }
+    ensures told { IsTaken gone_line (E.contents errors.old) (E.contents errors.new) }
+    ensures version { IsTaken other_version (W.contents output.old) (W.contents output.new) }
+{
+    let _ = write_out(GONE.as_bytes(), errors);
+    let _ = write_out(&OTHER_VERSION, output);
+    NOT_A_COMMAND
+}
