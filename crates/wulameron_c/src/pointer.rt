@@ -1,57 +1,57 @@
-//! What C holds of a state: its pointer.
+//! What C holds of a session: its pointer.
 
 ghost use Rattle.std.specs.Prelude.{◌≡◌, Option, Some, None, IsSome};
-ghost use Rattle.wulameron_c.specs.Pointers.{pointer_owns, state_coded};
-ghost use Rattle.wulameron_state.specs.declared.state.TableState.{TableState};
+ghost use Rattle.wulameron_c.specs.Pointers.{pointer_owns, session_coded};
+ghost use Rattle.wulameron_c.specs.declared.table_session.TableSession.{TableSession};
 
+use crate::apart::Apart;
+use crate::table_session::TableSession;
 use std::alloc::Global;
 use std::marker::Model;
-use wulameron_boxed::Apart;
-use wulameron_state::state::TableState;
 
-/// A state by its pointer, or none. C sees the pointer alone: a `Global` takes no bytes.
+/// A session by its pointer, or none. C sees the pointer alone: a `Global` takes no bytes.
 #[repr(C)]
 #[derive(Drop)]
-pub struct StatePointer {
+pub struct SessionPointer {
     pointer: *mut u8,
     alloc: Global,
-    pub ghost state: { Option TableState } by { state_coded },
+    pub ghost session: { Option TableSession } by { session_coded },
 }
 
-impl Model for StatePointer {
-    ghost also_owns = { λ held. pointer_owns held.alloc held.pointer held.state };
+impl Model for SessionPointer {
+    ghost also_owns = { λ held. pointer_owns held.alloc held.pointer held.session };
 }
 
-impl StatePointer {
+impl SessionPointer {
     /// None.
-    pub(crate) fn null(alloc: Global) -> StatePointer
-        ensures { result.state ≡ None }
+    pub(crate) fn null(alloc: Global) -> SessionPointer
+        ensures { result.session ≡ None }
     {
-        StatePointer {
+        SessionPointer {
             pointer: std::ptr::null_mut(),
             alloc,
         }
     }
 
-    /// The state of a box that was taken apart.
-    pub(crate) fn of(apart: Apart<TableState, Global>) -> StatePointer
-        ensures { result.state ≡ Some apart.value }
+    /// The session of a box that was taken apart.
+    pub(crate) fn of(apart: Apart<TableSession, Global>) -> SessionPointer
+        ensures { result.session ≡ Some apart.value }
     {
         let Apart { pointer, alloc } = apart;
-        StatePointer {
+        SessionPointer {
             pointer: pointer as *mut u8,
             alloc,
         }
     }
 
-    /// What the box of the state was taken apart to.
-    pub(crate) fn into_apart(self) -> Apart<TableState, Global>
-        requires { IsSome self.state }
-        ensures { Some result.value ≡ self.state }
+    /// What the box of the session was taken apart to.
+    pub(crate) fn into_apart(self) -> Apart<TableSession, Global>
+        requires { IsSome self.session }
+        ensures { Some result.value ≡ self.session }
     {
-        let StatePointer { pointer, alloc } = self;
+        let SessionPointer { pointer, alloc } = self;
         Apart {
-            pointer: pointer as *mut TableState,
+            pointer: pointer as *mut TableSession,
             alloc,
         }
     }

@@ -6,8 +6,7 @@ pub returns-then-handle-eq-OPEN-clause-opens : goal.returns-then-handle-eq-OPEN-
 returns-then-handle-eq-OPEN-clause-opens c = is_open c.if-handle-eq-OPEN.true
 
 pub returns-in-Ok-clause-opens : goal.returns-in-Ok-clause-opens
-returns-in-Ok-clause-opens c = rw (c.of-handle.ensures ∙ ap Some (c.take.ensures ∙ c.in-Ok.ensures.ok)) (opened c.if-handle-eq-OPEN.false
-    (record { pending = c.new.ensures.pending; answer = c.new.ensures.answer; stands = c.new.ensures.stands }))
+returns-in-Ok-clause-opens c = rw (c.of-handle.ensures ∙ ap Some (c.take.ensures ∙ c.in-Ok.ensures.ok)) (opened c.if-handle-eq-OPEN.false c.new.ensures)
 
 pub returns-clause-opens : goal.returns-clause-opens
 returns-clause-opens c = no_memory c.if-handle-eq-OPEN.false

@@ -1,0 +1,48 @@
+-- `null` owns its allocator alone.
+use Rattle.std.proofs.Common.{◌≡◌, List, [], ◌∷◌, ◌++◌, refl, sym, subst, lit<}
+use mir.Val.{Val}
+use base.Logic.{SProp, ent, emp, id⊢}
+use base.Fml.{ftrue}
+use prog.Wp.{WpFn}
+use types.Kit.{‵, raw, ◌⊛◌, ◌$◌, ◌∵◌, !, qed, by, move, keep, split, fsplit, fjoin, suffices, use0}
+use types.Run.{lit, no_more, and_then, returns, enter}
+use types.ByLocal.{alloc_all, pass_all, free_all, look_at, get, sets}
+use types.Part.{agg}
+use contract.Monad.{fact, fact_i}
+use contract.Running.{tables}
+use denote.Exit.{yes}
+use denote.RattleType.{owns}
+use denote.Signature.{types_at, plain}
+use denote.RawPtr.{null_ptr, ptr_val}
+use denote.Steps.{nothing}
+use denote.Triple.Walked.{Stays, stay_dropped, walk_of, Goes-dropped}
+use denote.Param.{layout}
+use Rattle.std.proofs.alloc.Calls.{handle_tells}
+use Rattle.std.proofs.cell.Inside.{Good}
+use Rattle.std.specs.declared.option.Option.TheVariants.{None}
+use Rattle.std.proofs.raw_atomic.Walks.{proved_at, leaves}
+use Rattle.std.specs.contracts.impls.GlobalAllocator.TheImpl.{ghosts}
+use Rattle.wulameron_c.proofs.Stored as stored
+use Rattle.wulameron_c.proofs.Stored.{pair, pair_fits}
+use Rattle.wulameron_c.proofs.Held as held
+use Rattle.wulameron_c.proofs.Held.{V, A, laws, Row}
+use Rattle.wulameron_c.specs.contracts.pointer.SessionPointer.null.{ended, clauses}
+use Rattle.wulameron_c.specs.contracts.pointer.SessionPointer.null.Key.{name as #self}
+use Rattle.wulameron_c.proofs.pointer.SessionPointer.null.Statement.{statement}
+use Rattle.wulameron_c.proofs.pointer.SessionPointer.null.Code as code
+
+pub null_spec : {M : Type 1} → statement M
+null_spec 𝓤 𝓛 𝓜 𝓡 wired =
+    let H = 𝓛.H in let 𝓣 = tables 𝓤 H 𝓜 𝓡 𝓡.env in let c = clauses 𝓛 𝓜.mem 𝓡.returns in let fn = code.function in
+    let taken = plain (λ _. A) in let stays : Stays ended.signature.params ended.kept = (stay_dropped taken yes, tt) in
+    proved_at 𝓛 ended stays c 𝓜 𝓡 (Goes-dropped 𝓛 0 taken yes (λ κs x f. refl), tt) #self fn (code.unfolded 𝓤 H 𝓜 𝓡 wired) (λ z are.
+    let κs = z.0.0 in let v = z.0.3.0 in let Post : Val → SProp 𝓤 = (walk_of 𝓛 ended stays c).post z in let Run : List Val → SProp 𝓤 = λ ws. WpFn 𝓤 H 𝓣.C 𝓣.Λ fn ws Post in
+    qed 𝓛 ((‵ ftrue ⊛ ‵ (owns (types_at ended.signature.params κs) z.0.3 z.0.4)) ∷ raw ((c κs z.0.3).requires z.1) ∷ []) ∵ split ! $ move ! (1 ∷ []) $ fsplit ! $
+    handle_tells (stored.allocator V A laws ghosts) ! v z.0.4.0 (λ h is_alloc fits. let w : Val = h in let typed = fits in
+    let made : Good (layout Row) (pair (ptr_val null_ptr) h) = ((pair_fits V A laws ghosts 0 0 h fits).0, (record { fits = lit< tt }, (fits.1, tt))) in
+    suffices ! (Run (w ∷ [])) (subst (λ (us : List Val). ent 𝓤 (Run (w ∷ [])) (Run us)) (sym (λ i. is_alloc i ++ [])) (id⊢ 𝓤 (Run (w ∷ [])))) $
+    enter ! 𝓣.C 𝓣.Λ fn (w ∷ []) Post $ alloc_all ! (λ l. pass_all ! refl (typed, tt) $
+    sets ! (agg ! (and_then ! (lit ! tt) (and_then ! (get ! refl) (no_more !)))) refl made $
+    held.closed_null ! h v $
+    use0 𝓛 (raw (fact 𝓤 (None ≡ None))) (fact_i 𝓤 (None ≡ None) (emp 𝓤) refl) $ nothing ! $ nothing ! $ fjoin ! $
+    returns ! (look_at ! 0 refl) $ free_all ! refl $ keep ! (4 ∷ 0 ∷ 2 ∷ 1 ∷ []) $ by ! (leaves 𝓛 ended stays c z (pair (ptr_val null_ptr) h) (record { pointer = null_ptr; alloc = v; session = None }) (tt, tt) (tt, tt)))))

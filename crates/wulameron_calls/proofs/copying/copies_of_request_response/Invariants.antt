@@ -1,5 +1,0 @@
-use Rattle.std.proofs.Common.{◌≡◌, take}
-use Rattle.wulameron_calls.proofs.copying.copies_of_request_response.Given as goal
-
-abbrev pub invariant-loop-setter : goal.invariant-loop-setter
-invariant-loop-setter l = l.copies.items ≡ take l.setter-index l.setters

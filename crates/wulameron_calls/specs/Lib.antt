@@ -1,4 +1,0 @@
-pub mod Replies
-pub mod Pieces
-pub mod Given
-pub mod Copies

@@ -1,3 +1,0 @@
-pub mod Putting
-pub mod Pieces
-pub mod Numbers
