@@ -354,6 +354,109 @@ static void messages(void)
     closes(session);
 }
 
+/* Each text is read back as it was set, whatever it has. */
+static void any_text(void)
+{
+    static const char text[] = "a b=c,d:e%\n\303\244\"%20";
+    const size_t size = sizeof text - 1;
+    wulameron_session *session = opened(1);
+    uint64_t number = 0, count = 0, of = 0, alignment = 0;
+    uint32_t refusal = 0, variant = 0;
+    char first[64] = "x", second[64] = "x";
+    size_t length = 0, other = 0;
+    GIVES(WULAMERON_OK, wulameron_begin(session, WULAMERON_PUBLISH_SUBSCRIBE, WULAMERON_OPEN_OR_CREATE, 1, text, size));
+    GIVES(WULAMERON_OK, wulameron_set_type(session, WULAMERON_PAYLOAD, WULAMERON_FIXED_SIZE, text, size, 7, 16));
+    GIVES(WULAMERON_OK, wulameron_add_attribute(session, text, size, text, size));
+    GIVES(WULAMERON_OK, wulameron_add_attribute(session, WULAMERON_TEXT("%"), NULL, 0));
+    GIVES(WULAMERON_OK, wulameron_require_key(session, text, size));
+    GIVES(WULAMERON_OK, wulameron_send(session, 9, &number, &refusal));
+    GIVES(WULAMERON_OK, wulameron_get_name(session, 9, first, sizeof first, &length));
+    CHECK(length == size && memcmp(first, text, size) == 0);
+    GIVES(WULAMERON_OK, wulameron_get_type_name(session, 9, WULAMERON_PAYLOAD, first, sizeof first, &length));
+    CHECK(length == size && memcmp(first, text, size) == 0);
+    GIVES(WULAMERON_OK, wulameron_get_type(session, 9, WULAMERON_PAYLOAD, &variant, &of, &alignment));
+    CHECK(variant == WULAMERON_FIXED_SIZE && of == 7 && alignment == 16);
+    GIVES(WULAMERON_UNKNOWN_SETTING, wulameron_get_number(session, 9, WULAMERON_PAYLOAD_ALIGNMENT, &of));
+    GIVES(WULAMERON_UNKNOWN_SETTING, wulameron_get_duration(session, 9, WULAMERON_CREATION_TIME, &of, &variant));
+    /* Both lengths are told, and neither text is written where one has no room. */
+    memset(first, 'x', sizeof first);
+    GIVES(WULAMERON_TOO_SMALL, wulameron_get_attribute(session, 9, 1, first, 64, &length, second, 1, &other));
+    CHECK(length == size && other == size && first[0] == 'x');
+    GIVES(WULAMERON_OK, wulameron_get_attribute(session, 9, 1, first, 64, &length, second, 64, &other));
+    CHECK(memcmp(first, text, size) == 0 && memcmp(second, text, size) == 0);
+    GIVES(WULAMERON_OK, wulameron_get_attribute(session, 9, 0, first, 64, &length, second, 64, &other));
+    CHECK(length == 1 && first[0] == '%' && other == 0);
+    GIVES(WULAMERON_OK, wulameron_list(session, &count));
+    GIVES(WULAMERON_OK, wulameron_get_entry_name(session, 0, first, sizeof first, &length));
+    CHECK(count == 1 && length == size && memcmp(first, text, size) == 0);
+    closes(session);
+}
+
+/* A service may have the name of a setting. */
+static void names_of_settings(void)
+{
+    static const char *const names[] = {"max_servers", "attribute", "hash", "none", "agreed", "create"};
+    wulameron_session *session = opened(1);
+    uint64_t number = 0, value = 0, count = 0;
+    uint32_t k, refusal = 0;
+    uint8_t hash[WULAMERON_HASH_SIZE];
+    char name[16];
+    size_t length = 0;
+    for (k = 0; k < sizeof names / sizeof *names; k++) {
+        GIVES(WULAMERON_OK, asked(session, WULAMERON_REQUEST_RESPONSE, WULAMERON_CREATE, 1, names[k]));
+        GIVES(WULAMERON_OK, wulameron_set_number(session, WULAMERON_MAX_SERVERS, 3));
+        GIVES(WULAMERON_OK, wulameron_send(session, k, &number, &refusal));
+        GIVES(WULAMERON_OK, wulameron_get_number(session, k, WULAMERON_MAX_SERVERS, &value));
+        GIVES(WULAMERON_OK, wulameron_get_attribute_count(session, k, &count));
+        GIVES(WULAMERON_OK, wulameron_get_hash(session, k, hash, sizeof hash, &length));
+        CHECK(value == 3 && count == 0 && length == sizeof hash);
+        GIVES(WULAMERON_OK, wulameron_get_name(session, k, name, sizeof name, &length));
+        CHECK(length == strlen(names[k]) && memcmp(name, names[k], length) == 0);
+    }
+    closes(session);
+}
+
+/* Equal pairs and keys count once; what a call has no use for is taken, and left out. */
+static void limits(void)
+{
+    wulameron_session *session = opened(1);
+    uint64_t number = 0, count = 0;
+    uint32_t refusal = 0;
+    unsigned k, round;
+    char key[8];
+    GIVES(WULAMERON_NO_REQUEST, wulameron_add_attribute(session, NULL, 0, NULL, 0));
+    GIVES(WULAMERON_OK, asked(session, WULAMERON_EVENT, WULAMERON_OPEN_OR_CREATE, 1, "lamps"));
+    for (round = 0; round < 2; round++) {
+        for (k = 0; k < 64; k++) {
+            snprintf(key, sizeof key, "k%u", k);
+            GIVES(WULAMERON_OK, wulameron_add_attribute(session, key, strlen(key), WULAMERON_TEXT("v")));
+            GIVES(WULAMERON_OK, wulameron_require_key(session, key, strlen(key)));
+        }
+    }
+    GIVES(WULAMERON_TOO_MANY, wulameron_add_attribute(session, WULAMERON_TEXT("k0"), WULAMERON_TEXT("w")));
+    GIVES(WULAMERON_TOO_MANY, wulameron_require_key(session, WULAMERON_TEXT("k")));
+    GIVES(WULAMERON_BAD_ATTRIBUTE, wulameron_require_key(session, NULL, 0));
+    GIVES(WULAMERON_OK, wulameron_send(session, 0, &number, &refusal));
+    GIVES(WULAMERON_OK, wulameron_get_attribute_count(session, 0, &count));
+    CHECK(count == 64);
+    /* The slot is tested before the request. */
+    GIVES(WULAMERON_SLOT_IN_USE, wulameron_send(session, 0, &number, &refusal));
+    GIVES(WULAMERON_NO_REQUEST, wulameron_send(session, 1, &number, &refusal));
+    GIVES(WULAMERON_OK, asked(session, WULAMERON_EVENT, WULAMERON_OPEN, 1, "lamps"));
+    GIVES(WULAMERON_OK, wulameron_set_time(session, 1, 2));
+    GIVES(WULAMERON_OK, wulameron_send(session, 1, &number, &refusal));
+    GIVES(WULAMERON_OK, asked(session, WULAMERON_REQUEST_RESPONSE, WULAMERON_CREATE, 1, "lamps"));
+    GIVES(WULAMERON_OK, wulameron_set_clock_fault(session));
+    GIVES(WULAMERON_OK, wulameron_require_key(session, WULAMERON_TEXT("k")));
+    GIVES(WULAMERON_OK, wulameron_send(session, 2, &number, &refusal));
+    GIVES(WULAMERON_OK, asked(session, WULAMERON_EVENT, WULAMERON_CREATE, 1, "doors"));
+    GIVES(WULAMERON_OK, wulameron_set_duration(session, WULAMERON_DEADLINE, 1, 0));
+    GIVES(WULAMERON_OK, wulameron_set_clock_fault(session));
+    GIVES(WULAMERON_REFUSED, wulameron_send(session, 3, &number, &refusal));
+    CHECK(refusal > WULAMERON_EVENT_CREATE_ERROR && refusal < WULAMERON_EVENT_CREATE_ERROR + 100);
+    closes(session);
+}
+
 static void what_is_wrong(void)
 {
     static const char bad[] = "\377";
@@ -419,6 +522,9 @@ int main(int count, char **words)
     lines();
     refusals();
     nodes();
+    any_text();
+    names_of_settings();
+    limits();
     what_is_wrong();
     return counted();
 }

@@ -1,6 +1,7 @@
 /* What a session over a log gives where something goes wrong: its program is killed or stopped, this process is killed
- * or forks, the node is taken. Takes a folder for logs; WULAMERON_PROGRAM names the program. Compiled with log.c and
- * -DPATIENCE=3, so that who waits for a program that is stopped waits three seconds. Ends with `N passed, M failed`. */
+ * or forks, the node is taken. Takes a folder for logs; WULAMERON_PROGRAM names the program. Compiled with transport.c
+ * and -DPATIENCE=3, so that a call that waits for a program that is stopped waits three seconds. Ends with the line
+ * `N passed, M failed`. */
 #define _POSIX_C_SOURCE 200809L
 #include "checks.h"
 #include "wulameron.h"
@@ -67,6 +68,15 @@ static pid_t newest(void)
     return found > 1 ? found : getpid();
 }
 
+/* Kills the program that was started last, and waits until it has ended; who waits for its status still gets that. */
+static void kills_newest(void)
+{
+    pid_t program = newest();
+    siginfo_t ended;
+    kill(program, SIGKILL);
+    CHECK(waitid(P_PID, (id_t)program, &ended, WEXITED | WNOWAIT) == 0);
+}
+
 /* Each call whose program is gone gives one code, and so does the close, which frees the session. */
 static void each_ends(wulameron_session *session)
 {
@@ -116,7 +126,7 @@ static void killed_program(void)
     uint64_t node = 0, nodes = 9, releases = 9, removals = 9;
     uint32_t state = 0;
     GIVES(WULAMERON_OK, creates(first, 1));
-    kill(newest(), SIGKILL);
+    kills_newest();
     each_ends(first);
     second = opened(2);
     GIVES(WULAMERON_OK, wulameron_nodes(second, &nodes));
@@ -127,7 +137,7 @@ static void killed_program(void)
     /* One that dies beside it is given back when it is asked for: its place, its tag, the segment, the description. */
     first = opened(1);
     GIVES(WULAMERON_OK, creates(first, 1));
-    kill(newest(), SIGKILL);
+    kills_newest();
     GIVES(WULAMERON_ENDED, wulameron_close_session(first));
     CHECK(listed(second) == 1);
     GIVES(WULAMERON_OK, wulameron_clean(second, 1, 1, &nodes, &releases, &removals));

@@ -1,6 +1,6 @@
-/* What a session over a log gives where its program doesn't answer in the form of docs/SESSION_FORM.md, or doesn't end.
- * Takes a folder, in which it writes such programs. Compiled with log.c and -DPATIENCE=3. Ends with the line
- * `N passed, M failed`, and with status 1 where one failed. */
+/* What a session over a log gives where its program doesn't answer escaped lines as it should, or doesn't end. Takes
+ * a folder, in which it writes such programs. Compiled with transport.c, -DPATIENCE=3 and -DLONGEST=65536. Ends with
+ * the line `N passed, M failed`, and with status 1 where one failed. */
 #define _POSIX_C_SOURCE 200809L
 #include "checks.h"
 #include "wulameron.h"
@@ -13,33 +13,8 @@
 static unsigned programs;
 static const char *folder;
 
-/* A frame with these numbers, and texts of these lengths. */
-typedef struct {
-    uint32_t number, a;
-    uint64_t x;
-    uint32_t first_length, second_length;
-} frame;
-
-static void prints(FILE *file, uint64_t number, int bytes)
-{
-    for (; bytes > 0; bytes--, number >>= 8) fprintf(file, "\\%03o", (unsigned)(number & 0xff));
-}
-
-static void prints_frame(FILE *file, frame made)
-{
-    fputs("printf '", file);
-    prints(file, made.number, 4);
-    prints(file, made.a, 4);
-    prints(file, 0, 8);
-    prints(file, made.x, 8);
-    prints(file, 0, 16);
-    prints(file, made.first_length, 4);
-    prints(file, made.second_length, 4);
-    fputs("'\n", file);
-}
-
-/* A program that writes up to two frames, and then does something else: its path. */
-static const char *program(const frame *first, const frame *second, const char *then)
+/* A program in words of the shell: its path. */
+static const char *program(const char *words)
 {
     static char path[512];
     FILE *file;
@@ -47,88 +22,147 @@ static const char *program(const frame *first, const frame *second, const char *
     file = fopen(path, "w");
     CHECK(file != NULL);
     if (file == NULL) return path;
-    fputs("#!/bin/sh\n", file);
-    if (first != NULL) prints_frame(file, *first);
-    if (second != NULL) prints_frame(file, *second);
-    fprintf(file, "%s\n", then);
+    fprintf(file, "#!/bin/sh\n%s\n", words);
     fclose(file);
     CHECK(chmod(path, 0700) == 0);
     return path;
 }
 
-static uint32_t opens(const char *path, wulameron_session **session, char *message, size_t size, size_t *length)
+static uint32_t opens(const char *words, wulameron_session **session, char *message, size_t size, size_t *length)
 {
-    return wulameron_open_log(WULAMERON_VERSION, path, "log", 1, session, message, size, length);
+    return wulameron_open_log(WULAMERON_VERSION, program(words), "log", 1, session, message, size, length);
 }
 
-static const frame hello = {0, 1, 5, 0, 0};
-/* What a program does then that ends after the first call. */
-#define READS_ONE "; exec head -c 48 > /dev/null"
-
-/* The first frame is of another form, or cut short, or tells what is wrong. */
-static void first_frames(void)
+/* A session whose program greets, and then does so with each line, as `$line`. */
+static wulameron_session *answered(const char *words)
 {
+    char text[1024];
+    wulameron_session *session = NULL;
+    snprintf(text, sizeof text, "echo 'ready 2 5'\nwhile read -r line; do %s\ndone", words);
+    GIVES(WULAMERON_OK, opens(text, &session, NULL, 0, NULL));
+    return session;
+}
+
+/* The first line is of another form, or cut short, or tells what is wrong. */
+static void greetings(void)
+{
+    static const char *const others[] = {"echo 'ready 2'", "echo 'ready 2 5 6'", "echo 'ready 2 five'", "echo ok; cat",
+        "echo", "printf 'ready 2 5'", "printf 'log abc'", "printf 'ready 2 5\\nlog x\\n'; cat", "echo 'log %4'",
+        "echo 'log %4g'",
+        "echo 'ready 2 99999999999999999999'", "exec sleep 1000", "exec yes", "exec tr '\\0' x < /dev/zero"};
     wulameron_session *session = NULL;
     char message[64] = "xxxxxxxx";
-    size_t length = 0;
-    const frame other_form = {0, 2, 5, 0, 0}, no_code = {WULAMERON_NODE_ALIVE + 1, 1, 5, 0, 0};
-    const frame wrong = {WULAMERON_LOG, 0, 0, 6, 0}, longer = {WULAMERON_LOG, 0, 0, 60, 0};
-    GIVES(WULAMERON_VERSION_DIFFERS,
-        opens(program(&other_form, NULL, "cat"), &session, message, sizeof message, &length));
+    size_t k, length = 0;
+    GIVES(WULAMERON_VERSION_DIFFERS, opens("echo 'ready 3 5'; cat", &session, message, sizeof message, &length));
     CHECK(length > 0 && session == NULL);
-    GIVES(WULAMERON_ENDED, opens(program(&no_code, NULL, "cat"), &session, NULL, 0, NULL));
-    GIVES(WULAMERON_ENDED, opens(program(&wrong, NULL, "printf abc"), &session, NULL, 0, &length));
+    GIVES(WULAMERON_OUT_OF_MEMORY, opens("echo 'out of memory'", &session, NULL, 0, NULL));
+    for (k = 0; k < sizeof others / sizeof *others; k++) {
+        GIVES(WULAMERON_ENDED, opens(others[k], &session, message, sizeof message, &length));
+        CHECK(session == NULL && length > 0);
+    }
     /* Of a text as much as there is room for, whole characters: here the fourth is of two bytes. */
     memset(message, 'x', sizeof message);
-    GIVES(WULAMERON_LOG, opens(program(&wrong, NULL, "printf 'abc\\303\\244d'"), &session, message, 4, &length));
+    GIVES(WULAMERON_LOG, opens("echo 'log abc%C3%A4d'", &session, message, 4, &length));
     CHECK(length == 6 && memcmp(message, "abcx", 4) == 0);
-    GIVES(WULAMERON_LOG, opens(program(&wrong, NULL, "printf 'abc\\303\\244d'"), &session, message, 5, &length));
+    GIVES(WULAMERON_NODE_IN_USE, opens("echo 'in use abc%c3%a4%20'", &session, message, 5, &length));
     CHECK(length == 6 && memcmp(message, "abc\303\244x", 6) == 0);
-    /* It ends within the text that it announces. */
-    GIVES(WULAMERON_ENDED, opens(program(&longer, NULL, "printf 'abc'"), &session, message, 5, &length));
-    /* It writes nothing, or no frame and no end. */
-    GIVES(WULAMERON_ENDED, opens(program(NULL, NULL, "exec sleep 1000"), &session, NULL, 0, NULL));
-    GIVES(WULAMERON_ENDED, opens(program(NULL, NULL, "exec yes"), &session, NULL, 0, NULL));
+    GIVES(WULAMERON_LOG, opens("echo 'log %'", &session, message, 5, &length));
+    CHECK(length == 0);
 }
 
-/* A reply is of another form, or has a longer text than there is. */
-static void replies(void)
+/* Each call whose reply is another one ends the session. */
+static void other_replies(void)
 {
-    static const frame no_code = {99, 0, 0, 0, 0}, long_text = {0, 0, 0, 0xffffffff, 0xffffffff};
-    static const frame two_texts = {0, 0, 7, 2, 3};
-    wulameron_session *session = NULL;
-    uint64_t node = 0, number = 0;
-    char name[8] = "xxxxxxx";
+    static const char *const replies[] = {"echo", "echo ok", "echo 'closed 4'", "echo 'refused x y'",
+        "echo entries 2 x", "echo 'agreed 3 number=0'", "echo 'error: no such command'", "printf 'closed 3'; exit",
+        "printf 'closed 3\\n\\n'", "printf 'closed 3\\nclosed 3\\n'", "exit", "tr '\\0' x < /dev/zero"};
+    size_t k;
+    for (k = 0; k < sizeof replies / sizeof *replies; k++) {
+        wulameron_session *session = answered(replies[k]);
+        uint64_t node = 0, number = 7, count = 7;
+        uint32_t refusal = 7;
+        GIVES(WULAMERON_OK, wulameron_node(session, &node));
+        CHECK(node == 5);
+        GIVES(WULAMERON_OK, wulameron_begin(session, WULAMERON_EVENT, WULAMERON_OPEN, 5, WULAMERON_TEXT("lamps")));
+        GIVES(WULAMERON_ENDED, k % 2 == 0 ? wulameron_close(session, 3)
+                                          : wulameron_send(session, 3, &number, &refusal));
+        GIVES(WULAMERON_ENDED, wulameron_list(session, &count));
+        CHECK(number == 7 && refusal == 7 && count == 7);
+        GIVES(WULAMERON_ENDED, wulameron_close_session(session));
+    }
+}
+
+/* A reply of its own for each word, and texts that are none. */
+static void leaves(void)
+{
+    wulameron_session *session = answered("case $line in plain*) echo 'plain a%4'; exit;; entries) echo 'entries 1 "
+                                          "published,event,1,2,3,00zz,%';; *) echo \"slot ${line#* } empty\";; esac");
+    uint64_t count = 0, number = 9, nodes = 9, max_nodes = 9;
+    uint32_t state = 9, pattern = 9;
+    uint8_t hash[20];
+    char name[4];
+    size_t length = 9;
+    GIVES(WULAMERON_OK, wulameron_list(session, &count));
+    GIVES(WULAMERON_OK, wulameron_get_entry(session, 0, &state, &pattern, &number, &nodes, &max_nodes));
+    CHECK(state == WULAMERON_PUBLISHED && pattern == WULAMERON_EVENT && number == 1 && nodes == 2 && max_nodes == 3);
+    GIVES(WULAMERON_OK, wulameron_get_entry_name(session, 0, name, sizeof name, &length));
+    CHECK(length == 0);
+    GIVES(WULAMERON_SLOT_EMPTY, wulameron_get_name(session, 4, name, sizeof name, &length));
+    GIVES(WULAMERON_ENDED, wulameron_get_entry_hash(session, 0, hash, sizeof hash, &length));
+    GIVES(WULAMERON_ENDED, wulameron_close_session(session));
+    session = answered("echo 'plain a%4'");
+    GIVES(WULAMERON_ENDED, wulameron_line(session, WULAMERON_TEXT("list")));
+    GIVES(WULAMERON_ENDED, wulameron_close_session(session));
+    /* The program writes what nobody asked for. */
+    session = answered("echo 'closed 3'; sleep 0.1; echo 'closed 3'");
+    GIVES(WULAMERON_OK, wulameron_close(session, 3));
+    {
+        struct timespec pause = {0, 600000000};
+        nanosleep(&pause, NULL);
+    }
+    GIVES(WULAMERON_ENDED, wulameron_close(session, 3));
+    GIVES(WULAMERON_ENDED, wulameron_close_session(session));
+}
+
+/* Where the log refuses for good each call tells so, and where it refuses once the others go on. */
+static void refusing(void)
+{
+    wulameron_session *session = answered("echo 'log the%20log%20is%20gone'; exit 3");
+    uint64_t count = 7, releases = 7, removals = 7;
+    char reply[64];
     size_t length = 0;
-    GIVES(WULAMERON_OK, opens(program(&hello, &no_code, "exec cat > /dev/null"), &session, NULL, 0, NULL));
-    GIVES(WULAMERON_OK, wulameron_node(session, &node));
-    CHECK(node == 5);
-    GIVES(WULAMERON_ENDED, wulameron_list(session, &number));
-    GIVES(WULAMERON_ENDED, wulameron_close_session(session));
-    GIVES(WULAMERON_OK, opens(program(&hello, &long_text, "printf abc" READS_ONE), &session, NULL, 0, NULL));
-    GIVES(WULAMERON_TOO_SMALL, wulameron_get_name(session, 0, name, sizeof name, &length));
-    CHECK(length == 0xffffffff && name[0] == 'x');
-    GIVES(WULAMERON_ENDED, wulameron_list(session, &number));
-    GIVES(WULAMERON_ENDED, wulameron_close_session(session));
-    /* Texts that nobody asked for are skipped. */
-    GIVES(WULAMERON_OK, opens(program(&hello, &two_texts, "printf abcde" READS_ONE), &session, NULL, 0, NULL));
-    GIVES(WULAMERON_OK, wulameron_list(session, &number));
-    CHECK(number == 7);
-    GIVES(WULAMERON_ENDED, wulameron_list(session, &number));
-    GIVES(WULAMERON_ENDED, wulameron_close_session(session));
+    GIVES(WULAMERON_LOG, wulameron_list(session, &count));
+    GIVES(WULAMERON_LOG, wulameron_begin(session, WULAMERON_EVENT, WULAMERON_OPEN, 5, WULAMERON_TEXT("lamps")));
+    GIVES(WULAMERON_LOG, wulameron_close(session, 3));
+    GIVES(WULAMERON_OK, wulameron_get_reply(session, reply, sizeof reply, &length));
+    CHECK(length == 15 && memcmp(reply, "the log is gone", 15) == 0 && count == 7);
+    GIVES(WULAMERON_LOG, wulameron_close_session(session));
+    session = answered("case $line in clean*) echo 'refused by the log a%3Ab';; "
+                       "*) echo \"slot ${line#* } empty\";; esac");
+    GIVES(WULAMERON_LOG, wulameron_clean(session, 5, 0, &count, &releases, &removals));
+    GIVES(WULAMERON_OK, wulameron_get_reply(session, reply, sizeof reply, &length));
+    CHECK(length == 3 && memcmp(reply, "a:b", 3) == 0 && releases == 7 && removals == 7);
+    GIVES(WULAMERON_SLOT_EMPTY, wulameron_close(session, 3));
+    GIVES(WULAMERON_OK, wulameron_close_session(session));
+    session = answered("case $line in 'close 7') echo 'not closed 7';; *) echo \"slot ${line#* } empty\";; esac");
+    GIVES(WULAMERON_NOT_CLOSED, wulameron_close(session, 7));
+    GIVES(WULAMERON_NOT_CLOSED, wulameron_close_session(session));
 }
 
 /* A program that doesn't end is killed in time. */
 static void endless(void)
 {
-    static const char *const thens[] = {"exec sleep 1000", "exec yes",
+    static const char *const thens[] = {"exec sleep 1000", "read -r line; exec yes",
+        "read -r line; exec tr '\\0' x < /dev/zero",
         "trap '' TERM INT HUP; exec < /dev/null > /dev/null; exec sleep 1000"};
     size_t k;
     for (k = 0; k < sizeof thens / sizeof *thens; k++) {
         wulameron_session *session = NULL;
         time_t begin = time(NULL);
         uint64_t count = 0;
-        GIVES(WULAMERON_OK, opens(program(&hello, NULL, thens[k]), &session, NULL, 0, NULL));
+        char words[256];
+        snprintf(words, sizeof words, "echo 'ready 2 5'; %s", thens[k]);
+        GIVES(WULAMERON_OK, opens(words, &session, NULL, 0, NULL));
         GIVES(WULAMERON_ENDED, wulameron_list(session, &count));
         GIVES(WULAMERON_ENDED, wulameron_close_session(session));
         CHECK(time(NULL) - begin < 20);
@@ -138,8 +172,10 @@ static void endless(void)
 int main(int count, char **words)
 {
     folder = count > 1 ? words[1] : ".";
-    first_frames();
-    replies();
+    greetings();
+    other_replies();
+    leaves();
+    refusing();
     endless();
     return counted();
 }

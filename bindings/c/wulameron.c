@@ -1,57 +1,225 @@
-/* The tests that wulameron_c_* and wulameron_log_* leave to their caller: nulls, one call at a time, one owner. No
- * proof covers this file. */
-#include "log.h"
+/* Each call of wulameron.h: a line is written, and its reply read. Over a table the archive answers it, over a log the
+ * program. No proof covers this file. */
+#include "lines.h"
+#include "words.h"
 #include "wulameron.h"
 #include "wulameron_c.h"
 
 #include <stdlib.h>
+#include <string.h>
 
-/* Over a log or, where that is null, over the table of the handle. */
+typedef wulameron_part part;
+
+/* The number of the exports in wulameron_c.h, which the archive gives too, and the limits of a request. */
+enum { EXPORTS = 2, LONGEST_NAME = 255, LONGEST_TYPE = 256, LONGEST_KEY = 64, LONGEST_VALUE = 256, MOST = 64 };
+/* The texts of a session: the line, the reply to it, what wulameron_get_reply gives, the request's name and settings,
+ * its pairs, its keys and its time, and the replies with both lists. */
+enum { LINE, ANSWER, KEPT, REQUEST, PAIRS, KEYS, CLOCK, LISTS, TEXTS = LISTS + 2 };
+
 struct wulameron_session {
-    wulameron_log *log;
-    wulameron_c_handle handle;
-    char busy;
+    wulameron_c_handle handle; /* of its table, or else the program over a log */
+    wulameron_program program;
+    char is_over_log, busy;
+    wulameron_text texts[TEXTS];
+    /* The reply to the last line, and the slot before that which it shows, or 0. */
+    part reply;
+    uint64_t shown;
+    /* Whether there was memory for all of the reply, and for what is kept: WULAMERON_OK or WULAMERON_OUT_OF_MEMORY. */
+    uint32_t got, kept;
+    /* The request: none where the pattern is 0. */
+    uint32_t pattern, how;
+    uint64_t node;
 };
 
-/* The number of the exports in wulameron_c.h, which the archive gives too. */
-enum { EXPORTS = 1 };
+/* A call of wulameron.h that is one expression of its parameters, and one that begins and leaves, too. */
+#define CALL(name, parameters, ...) uint32_t wulameron_##name parameters { return __VA_ARGS__; }
+#define HELD(name, parameters, what, is_there, ...) \
+    uint32_t wulameron_##name parameters \
+    { \
+        uint32_t code = begins(session, what, is_there); \
+        return code == WULAMERON_OK ? leaves(session, __VA_ARGS__) : code; \
+    }
+#define SESSION wulameron_session *session
+#define SLOT SESSION, uint32_t slot
+#define TEXT(name) const char *name, size_t name##_length
+#define GIVEN(name) (part){name, name##_length}
+#define IS_GIVEN(name) (name != NULL || name##_length == 0)
+#define PLACE(kind) kind *output, size_t size, size_t *length
+#define WRITTEN output, size, length
+#define THIS (uint64_t)slot
+#define ALL(which) (part){session->texts[which].bytes, session->texts[which].length}
+/* What is given of a slot, of a setting of it, and of an item of a list. */
+#define OF_SLOT(what, ...) gives(session, what, slot, 0, 0, 0, __VA_ARGS__)
+#define OF_SETTING(takes, number, ...) gives(session, SHOW, slot, takes, number, 0, __VA_ARGS__)
+#define OF_ITEM(what, ...) gives(session, what, index, 0, 0, 0, __VA_ARGS__)
 
-/* What stands for a null text or a null place of no bytes. */
-static uint8_t nothing[1];
-
-static const uint8_t *text(const char *bytes)
+/* The setting of this number, of a pattern, that takes one of these; null where there is none. */
+static const setting *setting_of(uint32_t pattern, uint32_t number, uint32_t takes)
 {
-    return bytes == NULL ? nothing : (const uint8_t *)bytes;
+    const setting *at = settings, *end = settings + sizeof settings / sizeof *settings;
+    for (; at < end; at++)
+        if (at->number == number && (at->pattern == pattern || at->pattern == 0) && (at->takes & takes) != 0) return at;
+    return NULL;
 }
 
-static uint8_t *room(void *output)
-{
-    return output == NULL ? nothing : (uint8_t *)output;
-}
+/* ---- calls */
 
-/* Whether no other call runs on this session. One that enters leaves. */
-static int enters(wulameron_session *session)
-{
-    return !__atomic_test_and_set(&session->busy, __ATOMIC_ACQUIRE);
-}
-
+/* Leaves with a code. A reply that hasn't the form of one is of no program for sessions, which is asked no more. */
 static uint32_t leaves(wulameron_session *session, uint32_t code)
 {
+    if (code == WULAMERON_ENDED) session->program.over = code;
     __atomic_clear(&session->busy, __ATOMIC_RELEASE);
     return code;
 }
 
-/* Makes a call over the log, or over the table. */
-#define EITHER(over_log, over_table) \
-    leaves(session, session->log != NULL ? wulameron_log_##over_log : wulameron_c_##over_table)
-
-static wulameron_place place(void *output, size_t size, size_t *length)
+/* Enters where no other call runs on this session, all that is given is there, and the session is of use for what is
+ * asked. The reply to a line, and the session's own node, are there also afterwards. */
+static uint32_t begins(wulameron_session *session, int what, int is_there)
 {
-    wulameron_place made = {output, size, length};
-    return made;
+    uint32_t code = WULAMERON_OK;
+    if (session == NULL || !is_there) return WULAMERON_NULL;
+    if (__atomic_test_and_set(&session->busy, __ATOMIC_ACQUIRE)) return WULAMERON_BUSY;
+    if (!session->is_over_log && what >= NODES) code = WULAMERON_ONLY_OVER_LOG;
+    if (session->is_over_log && what != REPLY && what != OWN) code = wulameron_program_state(&session->program);
+    return code == WULAMERON_OK ? code : leaves(session, code);
 }
 
-uint32_t wulameron_open_table(uint32_t version, wulameron_session **out)
+/* Keeps a leaf for wulameron_get_reply, unless there is no memory for it. WULAMERON_ENDED where it is none. */
+static uint32_t keeps(wulameron_session *session, part leaf, uint32_t code)
+{
+    size_t length;
+    session->texts[KEPT].length = 0;
+    session->kept = session->got;
+    if (session->got == WULAMERON_OK && !wulameron_matches(leaf, "~", NULL, SIZE_MAX, &length)) return WULAMERON_ENDED;
+    if (session->got == WULAMERON_OK) session->kept = wulameron_put(&session->texts[KEPT], "*", leaf);
+    return code;
+}
+
+/* Has a table answer a line, which it is given without its end; no line asks for the last reply again. */
+static uint32_t asks_table(wulameron_session *session, part line, wulameron_text *answer)
+{
+    size_t length = LEAST;
+    uint32_t code = WULAMERON_TOO_SMALL;
+    for (line.length--; code == WULAMERON_TOO_SMALL; line.length = 0) {
+        if (!wulameron_has_room(answer, length)) return WULAMERON_OUT_OF_MEMORY;
+        code = wulameron_c_line(&session->handle, (const uint8_t *)line.at, line.length, (uint8_t *)answer->bytes,
+            answer->size, &length);
+    }
+    if (code == WULAMERON_OK && length > 0) answer->length = length - 1;
+    return code;
+}
+
+/* Has the session's line answered that was put with this code. Gives that of a reply that any line may have;
+ * WULAMERON_OK where the reply is another one, which its caller reads; WULAMERON_OUT_OF_MEMORY also where only the
+ * reply's front could be kept. */
+static uint32_t asks(wulameron_session *session, uint32_t code)
+{
+    wulameron_text *line = &session->texts[LINE], *answer = &session->texts[ANSWER];
+    size_t k;
+    part why;
+    session->shown = 0;
+    answer->length = 0;
+    if (code == WULAMERON_OK && session->is_over_log) code = wulameron_program_ask(&session->program, line, answer);
+    else if (code == WULAMERON_OK) code = asks_table(session, ALL(LINE), answer);
+    if (code == WULAMERON_ENDED) answer->length = 0;
+    line->length = 0;
+    session->got = code;
+    session->reply = ALL(ANSWER);
+    for (k = 0; answer->length > 0 && k < sizeof known / sizeof *known; k++)
+        if (*known[k].form == *answer->bytes && wulameron_matches(session->reply, known[k].form)) return known[k].code;
+    if (wulameron_matches(session->reply, "refused by the log *", &why)) return keeps(session, why, WULAMERON_LOG);
+    if (!session->is_over_log || !wulameron_matches(session->reply, "log *", &why)) return code;
+    return session->program.over = keeps(session, why, WULAMERON_LOG);
+}
+
+/* Has it answered what a word asks of a number; what a slot holds isn't asked again where it was shown last. */
+static uint32_t asks_of(wulameron_session *session, int what, uint64_t of)
+{
+    const char *form = of == WULAMERON_ANY_NODE ? "$\n" : "$ #\n";
+    uint32_t code = WULAMERON_OK;
+    if (words[what] == NULL) return WULAMERON_BAD_VALUE;
+    if (what <= ABANDON && of >= WULAMERON_SLOTS) return WULAMERON_NO_SUCH_SLOT;
+    if (what != SHOW || session->shown != of + 1)
+        code = asks(session, wulameron_put(&session->texts[LINE], form, words[what], of));
+    if (what == SHOW && code == WULAMERON_OK) session->shown = of + 1;
+    return code;
+}
+
+/* What the reply shows of a setting that takes one of these: the one of this index where there are several. */
+static uint32_t finds(wulameron_session *session, uint32_t takes, uint32_t number, uint64_t index, part *found)
+{
+    part rest = session->reply, word;
+    const setting *wanted;
+    uint32_t pattern;
+    if (!wulameron_matches(rest, "agreed _ _ _ _ _ _ ^ create _", patterns, &pattern)) return WULAMERON_ENDED;
+    wanted = setting_of(pattern, number, takes);
+    if (wanted == NULL) return WULAMERON_UNKNOWN_SETTING;
+    while (rest.length > 0) {
+        int is_term = wulameron_matches(wulameron_cut(&rest, ' '), "*=*", &word, found);
+        if (is_term && wulameron_is(word, wanted->word) && index-- == 0)
+            return wulameron_is(*found, "none") ? WULAMERON_NONE : WULAMERON_OK;
+    }
+    return takes == PAIR ? WULAMERON_NO_SUCH_ITEM : WULAMERON_ENDED;
+}
+
+/* The item of this index in a list. */
+static uint32_t item_of(wulameron_session *session, int what, uint64_t index, part *item)
+{
+    part rest = ALL(LISTS + what - ENTRIES);
+    uint64_t count;
+    if (!wulameron_matches(rest, "_ # *", &count, &rest) || index >= count) return WULAMERON_NO_SUCH_ITEM;
+    do *item = wulameron_cut(&rest, ' ');
+    while (index-- > 0);
+    return WULAMERON_OK;
+}
+
+/* A call that reads into places by a form: the reply to a word and a number, or of a slot a setting that takes one of
+ * these; an item of a list; or the leaf that is kept. */
+static uint32_t gives(SESSION, int what, uint64_t at, uint32_t takes, uint32_t number, uint64_t index, const char *form,
+    ...)
+{
+    part text = {NULL, 0};
+    uint32_t code;
+    va_list places;
+    va_start(places, form);
+    code = begins(session, what, wulameron_read(text, form, places, PLACES) == WULAMERON_OK);
+    if (code == WULAMERON_OK) {
+        if (what == REPLY) code = session->kept;
+        else if (what == ENTRIES || what == NODES) code = item_of(session, what, at, &text);
+        else code = asks_of(session, what, at);
+        if (what == REPLY) text = ALL(KEPT);
+        else if (what != ENTRIES && what != NODES) text = session->reply;
+        if (code == WULAMERON_OK && takes != 0) code = finds(session, takes, number, index, &text);
+        if (code == WULAMERON_OK) code = wulameron_read(text, form, places, LOOKS);
+        (void)leaves(session, code);
+    }
+    va_end(places);
+    return code;
+}
+
+/* Takes a list. Where that isn't done the last one stays. */
+static uint32_t lists(wulameron_session *session, int what, uint64_t *count)
+{
+    wulameron_text *list = &session->texts[LISTS + what - ENTRIES], last = *list;
+    uint64_t told = 0, found = 0;
+    part items = {NULL, 0};
+    uint32_t code = asks_of(session, what, WULAMERON_ANY_NODE);
+    if (code != WULAMERON_OK) return code;
+    if (!wulameron_matches(session->reply, "_ #", &told) && !wulameron_matches(session->reply, "_ # *", &told, &items))
+        return WULAMERON_ENDED;
+    for (; items.length > 0; found++) (void)wulameron_cut(&items, ' ');
+    if (found != told) return WULAMERON_ENDED;
+    *list = session->texts[ANSWER];
+    session->texts[ANSWER] = last;
+    *count = told;
+    return WULAMERON_OK;
+}
+
+/* ---- sessions */
+
+/* Opens a session over a log where there is a text for what is wrong, else over a table. */
+static uint32_t opens(uint32_t version, wulameron_session **out, const char *program, const char *path, uint64_t node,
+    wulameron_text *why)
 {
     wulameron_session *session;
     uint32_t code;
@@ -60,352 +228,239 @@ uint32_t wulameron_open_table(uint32_t version, wulameron_session **out)
     if (version != WULAMERON_VERSION || wulameron_c_version() != EXPORTS) return WULAMERON_VERSION_DIFFERS;
     session = (wulameron_session *)calloc(1, sizeof *session);
     if (session == NULL) return WULAMERON_OUT_OF_MEMORY;
-    code = wulameron_c_open_table(&session->handle);
-    if (code != WULAMERON_OK) {
-        free(session);
-        return code;
-    }
-    *out = session;
-    return WULAMERON_OK;
+    session->is_over_log = why != NULL;
+    if (why == NULL) code = wulameron_c_open_table(&session->handle);
+    else code = wulameron_program_start(&session->program, program, path, node, why);
+    if (code == WULAMERON_OK) *out = session;
+    else free(session);
+    return code;
 }
+
+CALL(open_table, (uint32_t version, wulameron_session **out), opens(version, out, NULL, NULL, 0, NULL))
 
 uint32_t wulameron_open_log(uint32_t version, const char *program, const char *path, uint64_t node,
     wulameron_session **out, char *message, size_t size, size_t *length)
 {
-    wulameron_session *session;
-    uint32_t code;
-    if (out == NULL) return WULAMERON_NULL;
-    *out = NULL;
-    if (message == NULL && size != 0) return WULAMERON_NULL;
-    if (length != NULL) *length = 0;
-    if (version != WULAMERON_VERSION || wulameron_c_version() != EXPORTS) return WULAMERON_VERSION_DIFFERS;
-    session = (wulameron_session *)calloc(1, sizeof *session);
-    if (session == NULL) return WULAMERON_OUT_OF_MEMORY;
-    code = wulameron_log_open(program, path, node, &session->log, place(message, size, length));
-    if (code != WULAMERON_OK) {
-        free(session);
-        return code;
-    }
-    *out = session;
-    return WULAMERON_OK;
+    wulameron_text why = {NULL, 0, 0};
+    uint32_t code = WULAMERON_NULL;
+    size_t room;
+    if (message != NULL || size == 0) code = opens(version, out, program, path, node, &why);
+    else if (out != NULL) *out = NULL;
+    /* As much of it as there is room for, whole characters. */
+    for (room = why.length < size ? why.length : size; room > 0 && room < why.length; room--)
+        if (((unsigned char)why.bytes[room] & 0xc0) != 0x80) break;
+    if (room > 0) memcpy(message, why.bytes, room);
+    if (length != NULL) *length = why.length;
+    free(why.bytes);
+    return code;
 }
 
+/* Each slot over a log is closed before. One that there is no memory to ask for is closed by the program's end. */
 uint32_t wulameron_close_session(wulameron_session *session)
 {
-    uint32_t code;
+    uint32_t k, found, code = WULAMERON_OK;
     if (session == NULL) return WULAMERON_OK;
-    if (!enters(session)) return WULAMERON_BUSY;
-    if (session->log != NULL) code = wulameron_log_close_session(session->log);
+    if (begins(session, REPLY, 1) != WULAMERON_OK || leaves(session, code) != code) return WULAMERON_BUSY;
+    for (k = 0; session->is_over_log && k < WULAMERON_SLOTS; k++) {
+        found = wulameron_close(session, k);
+        if (found == WULAMERON_NOT_CLOSED || found == WULAMERON_LOG || found == WULAMERON_ENDED) code = found;
+    }
+    if (session->is_over_log) code = wulameron_program_end(&session->program, code);
     else code = wulameron_c_close_session(&session->handle);
+    for (k = 0; k < TEXTS; k++) free(session->texts[k].bytes);
     free(session);
     return code;
 }
 
-uint32_t wulameron_begin(wulameron_session *session, uint32_t pattern, uint32_t how, uint64_t node, const char *name,
-    size_t name_length)
+/* ---- the request */
+
+#define IS_ALIGNMENT(value) ((value) != 0 && ((value) & ((value) - 1)) == 0)
+
+/* The code of a text that has a byte at least and this many at most, or else another code. */
+static uint32_t judges(part text, size_t most, uint32_t other)
 {
-    if (session == NULL || (name == NULL && name_length != 0)) return WULAMERON_NULL;
-    if (!enters(session)) return WULAMERON_BUSY;
-    return EITHER(begin(session->log, pattern, how, node, name, name_length),
-        begin(&session->handle, pattern, how, node, text(name), name_length));
+    if (!wulameron_is_utf8(text)) return WULAMERON_NOT_UTF8;
+    return text.length < 1 || text.length > most ? other : WULAMERON_OK;
 }
 
-uint32_t wulameron_set_number(wulameron_session *session, uint32_t setting, uint64_t value)
+/* Begins a request, in place of the last one. */
+static uint32_t requests(SESSION, uint32_t pattern, uint32_t how, uint64_t node, part name)
 {
-    if (session == NULL) return WULAMERON_NULL;
-    if (!enters(session)) return WULAMERON_BUSY;
-    return EITHER(set_number(session->log, setting, value), set_number(&session->handle, setting, value));
+    uint32_t k, code = judges(name, LONGEST_NAME, WULAMERON_BAD_NAME);
+    if (session->is_over_log && node != session->program.node) return WULAMERON_OTHER_NODE;
+    if (pattern < 1 || pattern > 3) return WULAMERON_UNKNOWN_PATTERN;
+    if (how < 1 || how > 3) return WULAMERON_UNKNOWN_CALL;
+    if (code != WULAMERON_OK) return code;
+    /* More than the name takes, so that the last request stays where there is no memory. */
+    if (!wulameron_has_room(&session->texts[REQUEST], 4 * LONGEST_NAME)) return WULAMERON_OUT_OF_MEMORY;
+    for (k = REQUEST; k <= CLOCK; k++) session->texts[k].length = 0;
+    session->pattern = pattern;
+    session->how = how;
+    session->node = node;
+    return wulameron_put(&session->texts[REQUEST], " ~", name);
 }
 
-uint32_t wulameron_set_none(wulameron_session *session, uint32_t setting)
+HELD(begin, (SESSION, uint32_t pattern, uint32_t how, uint64_t node, TEXT(name)), SHOW, IS_GIVEN(name),
+    requests(session, pattern, how, node, GIVEN(name)))
+
+/* Sets a setting that takes one of these by a form, which has a name before two numbers. A value that can't be has no
+ * form, and a type alone a name. */
+static uint32_t sets(SESSION, uint32_t number, uint32_t takes, const char *form, part name, uint64_t first,
+    uint64_t second)
 {
-    if (session == NULL) return WULAMERON_NULL;
-    if (!enters(session)) return WULAMERON_BUSY;
-    return EITHER(set_none(session->log, setting), set_none(&session->handle, setting));
+    const setting *found = setting_of(session->pattern, number, takes);
+    uint32_t code = takes == TYPE ? judges(name, LONGEST_TYPE, WULAMERON_BAD_TYPE) : WULAMERON_OK;
+    if (form == NULL || (takes != TYPE && second >= 1000000000)) return WULAMERON_BAD_VALUE;
+    if (code == WULAMERON_OK && takes == TYPE && !IS_ALIGNMENT(second)) code = WULAMERON_BAD_TYPE;
+    if (code != WULAMERON_OK) return code;
+    if (session->pattern == 0) return WULAMERON_NO_REQUEST;
+    if (found == NULL) return WULAMERON_UNKNOWN_SETTING;
+    if (found->takes == FLAG) form = first == 0 ? " $=false" : first == 1 ? " $=true" : NULL;
+    if (form == NULL || (found->takes == ALIGNMENT && !IS_ALIGNMENT(first))) return WULAMERON_BAD_VALUE;
+    return wulameron_put(&session->texts[takes == TIME ? CLOCK : REQUEST], form, found->word, name, first, second);
 }
 
-uint32_t wulameron_set_duration(wulameron_session *session, uint32_t setting, uint64_t seconds, uint32_t nanoseconds)
+/* A call that sets, without a name. */
+#define SETS(name, parameters, ...) HELD(name, parameters, SHOW, 1, sets(session, __VA_ARGS__))
+static const part no_name = {NULL, 0};
+
+SETS(set_number, (SESSION, uint32_t setting, uint64_t value), setting, NUMBER | EVENT | FLAG | ALIGNMENT, " $=*#",
+    no_name, value, 0)
+SETS(set_none, (SESSION, uint32_t setting), setting, EVENT | LENGTH, " $=none", no_name, 0, 0)
+SETS(set_duration, (SESSION, uint32_t setting, uint64_t seconds, uint32_t nanoseconds), setting, LENGTH, " $=*#,#",
+    no_name, seconds, nanoseconds)
+SETS(set_time, (SESSION, uint64_t seconds, uint32_t nanoseconds), 0, TIME, " $=*#,#", no_name, seconds, nanoseconds)
+SETS(set_clock_fault, (SESSION), 0, TIME, " $=fault", no_name, 0, 0)
+HELD(set_type, (SESSION, uint32_t number, uint32_t variant, TEXT(name), uint64_t size, uint64_t alignment), SHOW,
+    IS_GIVEN(name), sets(session, number, TYPE,
+    variant == 1 ? " $=fixed,~,#,#" : variant == 2 ? " $=dynamic,~,#,#" : NULL, GIVEN(name), size, alignment))
+
+/* Puts a pair or a key to the others, of which there are at most so many different ones. */
+static uint32_t adds(SESSION, int which, const char *form, part key, part value)
 {
-    if (session == NULL) return WULAMERON_NULL;
-    if (!enters(session)) return WULAMERON_BUSY;
-    return EITHER(set_duration(session->log, setting, seconds, nanoseconds),
-        set_duration(&session->handle, setting, seconds, nanoseconds));
+    wulameron_text *text = &session->texts[which];
+    size_t at, size, before = text->length, count = 0;
+    int is_there = 0;
+    uint32_t code = session->pattern == 0 ? WULAMERON_NO_REQUEST : judges(key, LONGEST_KEY, WULAMERON_BAD_ATTRIBUTE);
+    if (!wulameron_is_utf8(key) || !wulameron_is_utf8(value)) return WULAMERON_NOT_UTF8;
+    if (code == WULAMERON_OK && value.length > LONGEST_VALUE) code = WULAMERON_BAD_ATTRIBUTE;
+    if (code == WULAMERON_OK) code = wulameron_put(text, form, key, value);
+    if (code != WULAMERON_OK) return code;
+    /* A blank stands before each of them alone. */
+    size = text->length - before;
+    for (at = 0; at < before && !is_there; at++) {
+        is_there = memcmp(text->bytes + at, text->bytes + before, size) == 0 && text->bytes[at + size] == ' ';
+        count += text->bytes[at] == ' ';
+    }
+    if (is_there || count == MOST) text->length = before;
+    return is_there || count < MOST ? WULAMERON_OK : WULAMERON_TOO_MANY;
 }
 
-uint32_t wulameron_set_type(wulameron_session *session, uint32_t part, uint32_t variant, const char *name, size_t
-    name_length, uint64_t size, uint64_t alignment)
+HELD(add_attribute, (SESSION, TEXT(key), TEXT(value)), SHOW, IS_GIVEN(key) && IS_GIVEN(value),
+    adds(session, PAIRS, " attribute=~:~", GIVEN(key), GIVEN(value)))
+HELD(require_key, (SESSION, TEXT(key)), SHOW, IS_GIVEN(key), adds(session, KEYS, " require_key=~", GIVEN(key), no_name))
+
+/* Sends the request, or tells what the slot has where there is none. */
+static uint32_t sends(SESSION, uint32_t slot, uint64_t *number, uint32_t *refusal)
 {
-    if (session == NULL || (name == NULL && name_length != 0)) return WULAMERON_NULL;
-    if (!enters(session)) return WULAMERON_BUSY;
-    return EITHER(set_type(session->log, part, variant, name, name_length, size, alignment),
-        set_type(&session->handle, part, variant, text(name), name_length, size, alignment));
+    uint32_t code;
+    if (slot >= WULAMERON_SLOTS) return WULAMERON_NO_SUCH_SLOT;
+    if (session->pattern == 0) {
+        code = asks_of(session, SHOW, slot);
+        if (code == WULAMERON_OK) return WULAMERON_SLOT_IN_USE;
+        return code == WULAMERON_SLOT_EMPTY ? WULAMERON_NO_REQUEST : code;
+    }
+    /* A create requires no keys, and events alone have need of a clock, unless they are opened. */
+    if (session->how == WULAMERON_CREATE) session->texts[KEYS].length = 0;
+    if (session->how == WULAMERON_OPEN || session->pattern != WULAMERON_EVENT) session->texts[CLOCK].length = 0;
+    code = asks(session, wulameron_put(&session->texts[LINE], "$ $ # #****\n", patterns[session->pattern],
+        hows[session->how], session->node, THIS, ALL(REQUEST), ALL(PAIRS), ALL(KEYS), ALL(CLOCK)));
+    if (code != WULAMERON_OK) return code;
+    if (wulameron_matches(session->reply, "refused + _", refusal)) code = WULAMERON_REFUSED;
+    else if (!wulameron_matches(session->reply, "ok @ number=#", THIS, number)) return WULAMERON_ENDED;
+    session->pattern = 0;
+    return code;
 }
 
-uint32_t wulameron_add_attribute(wulameron_session *session, const char *key, size_t key_length, const char *value,
-    size_t value_length)
-{
-    if (session == NULL || (key == NULL && key_length != 0) ||
-        (value == NULL && value_length != 0)) return WULAMERON_NULL;
-    if (!enters(session)) return WULAMERON_BUSY;
-    return EITHER(add_attribute(session->log, key, key_length, value, value_length),
-        add_attribute(&session->handle, text(key), key_length, text(value), value_length));
-}
+HELD(send, (SLOT, uint64_t *number, uint32_t *refusal), SHOW, number != NULL && refusal != NULL,
+    sends(session, slot, number, refusal))
+CALL(close, (SLOT), OF_SLOT(CLOSE, "closed @", THIS))
+CALL(abandon, (SLOT), OF_SLOT(ABANDON, "abandoned @", THIS))
 
-uint32_t wulameron_require_key(wulameron_session *session, const char *key, size_t key_length)
-{
-    if (session == NULL || (key == NULL && key_length != 0)) return WULAMERON_NULL;
-    if (!enters(session)) return WULAMERON_BUSY;
-    return EITHER(require_key(session->log, key, key_length),
-        require_key(&session->handle, text(key), key_length));
-}
+/* ---- what was agreed on */
 
-uint32_t wulameron_set_time(wulameron_session *session, uint64_t seconds, uint32_t nanoseconds)
-{
-    if (session == NULL) return WULAMERON_NULL;
-    if (!enters(session)) return WULAMERON_BUSY;
-    return EITHER(set_time(session->log, seconds, nanoseconds),
-        set_time(&session->handle, seconds, nanoseconds));
-}
-
-uint32_t wulameron_set_clock_fault(wulameron_session *session)
-{
-    if (session == NULL) return WULAMERON_NULL;
-    if (!enters(session)) return WULAMERON_BUSY;
-    return EITHER(set_clock_fault(session->log), set_clock_fault(&session->handle));
-}
-
-uint32_t wulameron_send(wulameron_session *session, uint32_t slot, uint64_t *number, uint32_t *refusal)
-{
-    if (session == NULL || number == NULL || refusal == NULL) return WULAMERON_NULL;
-    if (!enters(session)) return WULAMERON_BUSY;
-    return EITHER(send(session->log, slot, number, refusal), send(&session->handle, slot, number, refusal));
-}
-
-uint32_t wulameron_close(wulameron_session *session, uint32_t slot)
-{
-    if (session == NULL) return WULAMERON_NULL;
-    if (!enters(session)) return WULAMERON_BUSY;
-    return EITHER(close(session->log, slot), close(&session->handle, slot));
-}
-
-uint32_t wulameron_abandon(wulameron_session *session, uint32_t slot)
-{
-    if (session == NULL) return WULAMERON_NULL;
-    if (!enters(session)) return WULAMERON_BUSY;
-    return EITHER(abandon(session->log, slot), abandon(&session->handle, slot));
-}
-
-uint32_t wulameron_get_service(wulameron_session *session, uint32_t slot, uint32_t *pattern, uint64_t *number,
-    uint64_t *node)
-{
-    if (session == NULL || pattern == NULL || number == NULL || node == NULL) return WULAMERON_NULL;
-    if (!enters(session)) return WULAMERON_BUSY;
-    return EITHER(get_service(session->log, slot, pattern, number, node),
-        service(&session->handle, slot, pattern, number, node));
-}
-
-uint32_t wulameron_get_number(wulameron_session *session, uint32_t slot, uint32_t setting, uint64_t *value)
-{
-    if (session == NULL || value == NULL) return WULAMERON_NULL;
-    if (!enters(session)) return WULAMERON_BUSY;
-    return EITHER(get_number(session->log, slot, setting, value),
-        number(&session->handle, slot, setting, value));
-}
-
-uint32_t wulameron_get_duration(wulameron_session *session, uint32_t slot, uint32_t setting, uint64_t *seconds,
-    uint32_t *nanoseconds)
-{
-    if (session == NULL || seconds == NULL || nanoseconds == NULL) return WULAMERON_NULL;
-    if (!enters(session)) return WULAMERON_BUSY;
-    return EITHER(get_duration(session->log, slot, setting, seconds, nanoseconds),
-        time(&session->handle, slot, setting, seconds, nanoseconds));
-}
-
-uint32_t wulameron_get_type(wulameron_session *session, uint32_t slot, uint32_t part, uint32_t *variant, uint64_t
-    *size, uint64_t *alignment)
-{
-    if (session == NULL || variant == NULL || size == NULL || alignment == NULL) return WULAMERON_NULL;
-    if (!enters(session)) return WULAMERON_BUSY;
-    return EITHER(get_type(session->log, slot, part, variant, size, alignment),
-        type_of(&session->handle, slot, part, variant, size, alignment));
-}
-
-uint32_t wulameron_get_type_name(wulameron_session *session, uint32_t slot, uint32_t part, char *output, size_t size,
-    size_t *length)
-{
-    if (session == NULL || (output == NULL && size != 0) || length == NULL) return WULAMERON_NULL;
-    if (!enters(session)) return WULAMERON_BUSY;
-    return EITHER(get_type_name(session->log, slot, part, place(output, size, length)),
-        type_name(&session->handle, slot, part, room(output), size, length));
-}
-
-uint32_t wulameron_get_name(wulameron_session *session, uint32_t slot, char *output, size_t size, size_t *length)
-{
-    if (session == NULL || (output == NULL && size != 0) || length == NULL) return WULAMERON_NULL;
-    if (!enters(session)) return WULAMERON_BUSY;
-    return EITHER(get_name(session->log, slot, place(output, size, length)),
-        name(&session->handle, slot, room(output), size, length));
-}
-
-uint32_t wulameron_get_hash(wulameron_session *session, uint32_t slot, uint8_t *output, size_t size, size_t *length)
-{
-    if (session == NULL || (output == NULL && size != 0) || length == NULL) return WULAMERON_NULL;
-    if (!enters(session)) return WULAMERON_BUSY;
-    return EITHER(get_hash(session->log, slot, place(output, size, length)),
-        hash(&session->handle, slot, room(output), size, length));
-}
+CALL(get_service, (SLOT, uint32_t *pattern, uint64_t *number, uint64_t *node),
+    OF_SLOT(SHOW, "agreed @ number=# node=# _ _ _ ^ create _", THIS, number, node, patterns, pattern))
+CALL(get_number, (SLOT, uint32_t setting, uint64_t *value), OF_SETTING(NUMBER | EVENT | FLAG, setting, "!", value))
+CALL(get_duration, (SLOT, uint32_t setting, uint64_t *seconds, uint32_t *nanoseconds),
+    OF_SETTING(LENGTH | CREATION, setting, "#,+", seconds, nanoseconds))
+CALL(get_type, (SLOT, uint32_t part, uint32_t *variant, uint64_t *size, uint64_t *alignment),
+    OF_SETTING(TYPE, part, "^,_,#,#", variants, variant, size, alignment))
+CALL(get_type_name, (SLOT, uint32_t part, PLACE(char)), OF_SETTING(TYPE, part, "_,~,_", WRITTEN))
+CALL(get_name, (SLOT, PLACE(char)), OF_SLOT(SHOW, "agreed @ _ _ _ _ _ _ create _ _ ~ _", THIS, WRITTEN))
+CALL(get_hash, (SLOT, PLACE(uint8_t)), OF_SETTING(HASH, 0, "&", WRITTEN))
 
 uint32_t wulameron_get_attribute_count(wulameron_session *session, uint32_t slot, uint64_t *count)
 {
-    if (session == NULL || count == NULL) return WULAMERON_NULL;
-    if (!enters(session)) return WULAMERON_BUSY;
-    return EITHER(get_attribute_count(session->log, slot, count), attributes(&session->handle, slot, count));
+    uint64_t found = 0;
+    uint32_t code = count != NULL ? WULAMERON_OK : WULAMERON_NULL;
+    while (code == WULAMERON_OK) code = gives(session, SHOW, slot, PAIR, 0, found++, "_:_");
+    if (code != WULAMERON_NO_SUCH_ITEM) return code;
+    *count = found - 1;
+    return WULAMERON_OK;
 }
 
-uint32_t wulameron_get_attribute(wulameron_session *session, uint32_t slot, uint64_t index, char *key, size_t
-    key_size, size_t *key_length, char *value, size_t value_size, size_t *value_length)
+CALL(get_attribute, (SLOT, uint64_t index, char *key, size_t key_size, size_t *key_length, char *value,
+    size_t value_size, size_t *value_length),
+    gives(session, SHOW, slot, PAIR, 0, index, "~:~", key, key_size, key_length, value, value_size, value_length))
+CALL(get_bytes, (SLOT, PLACE(uint8_t)), OF_SLOT(BYTES, "bytes @ &", THIS, WRITTEN))
+
+/* ---- services and nodes */
+
+HELD(list, (SESSION, uint64_t *count), ENTRIES, count != NULL, lists(session, ENTRIES, count))
+CALL(get_entry, (SESSION, uint64_t index, uint32_t *state, uint32_t *pattern, uint64_t *number, uint64_t *nodes,
+    uint64_t *max_nodes),
+    OF_ITEM(ENTRIES, "^,^,#,#,#,_,_", states, state, patterns, pattern, number, nodes, max_nodes))
+CALL(get_entry_name, (SESSION, uint64_t index, PLACE(char)), OF_ITEM(ENTRIES, "_,_,_,_,_,_,~", WRITTEN))
+CALL(get_entry_hash, (SESSION, uint64_t index, PLACE(uint8_t)), OF_ITEM(ENTRIES, "_,_,_,_,_,&,_", WRITTEN))
+HELD(nodes, (SESSION, uint64_t *count), NODES, count != NULL, lists(session, NODES, count))
+CALL(get_node, (SESSION, uint64_t index, uint64_t *node, uint32_t *state), OF_ITEM(NODES, "#,^", node, lives, state))
+HELD(node, (SESSION, uint64_t *node), OWN, node != NULL, (*node = session->program.node, WULAMERON_OK))
+CALL(clean, (SESSION, uint64_t node, uint32_t dry_run, uint64_t *nodes, uint64_t *releases, uint64_t *removals),
+    gives(session, dry_run == 0 ? CLEAN : dry_run == 1 ? REHEARSE : WRONG, node, 0, 0, 0,
+    "cleaned nodes=# releases=# removals=#", nodes, releases, removals))
+
+/* ---- lines and texts */
+
+/* Has a line answered that is given. */
+static uint32_t carries_out(SESSION, part line)
 {
-    if (session == NULL || (key == NULL && key_size != 0) ||
-        (value == NULL && value_size != 0) || key_length == NULL || value_length == NULL) return WULAMERON_NULL;
-    if (!enters(session)) return WULAMERON_BUSY;
-    return EITHER(get_attribute(session->log, slot, index, place(key, key_size, key_length), place(value,
-            value_size, value_length)),
-        attribute(&session->handle, slot, (size_t)index, room(key), key_size, key_length, room(value), value_size,
-            value_length));
+    uint32_t code = asks(session, wulameron_put(&session->texts[LINE], "plain ~\n", line));
+    part leaf;
+    if (wulameron_matches(session->reply, "plain *", &leaf)) return keeps(session, leaf, WULAMERON_OK);
+    if (wulameron_matches(session->reply, "wrong *", &leaf)) return keeps(session, leaf, WULAMERON_BAD_LINE);
+    return code == WULAMERON_OK ? WULAMERON_ENDED : code;
 }
 
-uint32_t wulameron_get_bytes(wulameron_session *session, uint32_t slot, uint8_t *output, size_t size, size_t *length)
+HELD(line, (SESSION, TEXT(line)), SHOW, IS_GIVEN(line), carries_out(session, GIVEN(line)))
+CALL(get_reply, (SESSION, PLACE(char)), gives(session, REPLY, 0, 0, 0, 0, "~", WRITTEN))
+
+/* Asks a table of its own for a text of a refusal, which is where the form has it. */
+static uint32_t tells(uint32_t refusal, const char *form, char *output, size_t size, size_t *length)
 {
-    if (session == NULL || (output == NULL && size != 0) || length == NULL) return WULAMERON_NULL;
-    if (!enters(session)) return WULAMERON_BUSY;
-    return EITHER(get_bytes(session->log, slot, place(output, size, length)),
-        bytes(&session->handle, slot, room(output), size, length));
+    wulameron_session *session = NULL;
+    uint32_t code = wulameron_open_table(WULAMERON_VERSION, &session);
+    if (code != WULAMERON_OK) return code;
+    code = gives(session, REFUSAL, refusal, 0, 0, 0, form, (uint64_t)refusal, output, size, length);
+    (void)wulameron_close_session(session);
+    return code;
 }
 
-uint32_t wulameron_list(wulameron_session *session, uint64_t *count)
-{
-    if (session == NULL || count == NULL) return WULAMERON_NULL;
-    if (!enters(session)) return WULAMERON_BUSY;
-    return EITHER(list(session->log, count), list(&session->handle, count));
-}
-
-uint32_t wulameron_get_entry(wulameron_session *session, uint64_t index, uint32_t *state, uint32_t *pattern, uint64_t
-    *number, uint64_t *nodes, uint64_t *max_nodes)
-{
-    if (session == NULL || state == NULL || pattern == NULL || number == NULL || nodes == NULL || max_nodes == NULL)
-        return WULAMERON_NULL;
-    if (!enters(session)) return WULAMERON_BUSY;
-    return EITHER(get_entry(session->log, index, state, pattern, number, nodes, max_nodes),
-        entry(&session->handle, (size_t)index, state, pattern, number, nodes, max_nodes));
-}
-
-uint32_t wulameron_get_entry_name(wulameron_session *session, uint64_t index, char *output, size_t size,
-    size_t *length)
-{
-    if (session == NULL || (output == NULL && size != 0) || length == NULL) return WULAMERON_NULL;
-    if (!enters(session)) return WULAMERON_BUSY;
-    return EITHER(get_entry_texts(session->log, index, place(output, size, length), place(NULL, 0, NULL)),
-        entry_name(&session->handle, (size_t)index, room(output), size, length));
-}
-
-uint32_t wulameron_get_entry_hash(wulameron_session *session, uint64_t index, uint8_t *output, size_t size,
-    size_t *length)
-{
-    if (session == NULL || (output == NULL && size != 0) || length == NULL) return WULAMERON_NULL;
-    if (!enters(session)) return WULAMERON_BUSY;
-    return EITHER(get_entry_texts(session->log, index, place(NULL, 0, NULL), place(output, size, length)),
-        entry_hash(&session->handle, (size_t)index, room(output), size, length));
-}
-
-uint32_t wulameron_line(wulameron_session *session, const char *line, size_t length)
-{
-    if (session == NULL || (line == NULL && length != 0)) return WULAMERON_NULL;
-    if (!enters(session)) return WULAMERON_BUSY;
-    return EITHER(line(session->log, line, length), line(&session->handle, text(line), length));
-}
-
-uint32_t wulameron_get_reply(wulameron_session *session, char *output, size_t size, size_t *length)
-{
-    if (session == NULL || (output == NULL && size != 0) || length == NULL) return WULAMERON_NULL;
-    if (!enters(session)) return WULAMERON_BUSY;
-    return EITHER(kept(session->log, place(output, size, length)),
-        reply(&session->handle, room(output), size, length));
-}
-
-/* ---- nodes */
-
-uint32_t wulameron_node(wulameron_session *session, uint64_t *node)
-{
-    if (session == NULL || node == NULL) return WULAMERON_NULL;
-    if (!enters(session)) return WULAMERON_BUSY;
-    if (session->log == NULL) return leaves(session, WULAMERON_ONLY_OVER_LOG);
-    *node = wulameron_log_node(session->log);
-    return leaves(session, WULAMERON_OK);
-}
-
-uint32_t wulameron_nodes(wulameron_session *session, uint64_t *count)
-{
-    if (session == NULL || count == NULL) return WULAMERON_NULL;
-    if (!enters(session)) return WULAMERON_BUSY;
-    if (session->log == NULL) return leaves(session, WULAMERON_ONLY_OVER_LOG);
-    return leaves(session, wulameron_log_nodes(session->log, count));
-}
-
-uint32_t wulameron_get_node(wulameron_session *session, uint64_t index, uint64_t *node, uint32_t *state)
-{
-    if (session == NULL || node == NULL || state == NULL) return WULAMERON_NULL;
-    if (!enters(session)) return WULAMERON_BUSY;
-    if (session->log == NULL) return leaves(session, WULAMERON_ONLY_OVER_LOG);
-    return leaves(session, wulameron_log_get_node(session->log, index, node, state));
-}
-
-uint32_t wulameron_clean(wulameron_session *session, uint64_t node, uint32_t dry_run, uint64_t *nodes,
-    uint64_t *releases, uint64_t *removals)
-{
-    if (session == NULL || nodes == NULL || releases == NULL || removals == NULL) return WULAMERON_NULL;
-    if (!enters(session)) return WULAMERON_BUSY;
-    if (session->log == NULL) return leaves(session, WULAMERON_ONLY_OVER_LOG);
-    if (dry_run > 1) return leaves(session, WULAMERON_BAD_VALUE);
-    return leaves(session, wulameron_log_clean(session->log, node, dry_run, nodes, releases, removals));
-}
-
-/* ---- texts */
-
-uint32_t wulameron_refusal_name(uint32_t refusal, char *output, size_t size, size_t *length)
-{
-    if ((output == NULL && size != 0) || length == NULL) return WULAMERON_NULL;
-    return wulameron_c_refusal_name(refusal, room(output), size, length);
-}
-
-uint32_t wulameron_refusal_text(uint32_t refusal, char *output, size_t size, size_t *length)
-{
-    if ((output == NULL && size != 0) || length == NULL) return WULAMERON_NULL;
-    return wulameron_c_refusal_text(refusal, room(output), size, length);
-}
-
-uint32_t wulameron_refusal_advice(uint32_t refusal, char *output, size_t size, size_t *length)
-{
-    if ((output == NULL && size != 0) || length == NULL) return WULAMERON_NULL;
-    return wulameron_c_refusal_advice(refusal, room(output), size, length);
-}
+CALL(refusal_name, (uint32_t refusal, PLACE(char)), tells(refusal, "refusal @ ~ _ _", WRITTEN))
+CALL(refusal_text, (uint32_t refusal, PLACE(char)), tells(refusal, "refusal @ _ ~ _", WRITTEN))
+CALL(refusal_advice, (uint32_t refusal, PLACE(char)), tells(refusal, "refusal @ _ _ ~", WRITTEN))
 
 const char *wulameron_code_text(uint32_t code)
 {
-    static const char *const texts[] = {
-        "done", "a pointer is null", "another call runs on this session",
-        "header and library are of different versions",
-        "out of memory", "the text has more bytes than its place", "a text isn't UTF-8",
-        "a service's name has 1 to 255 bytes", "a value that the setting can't have",
-        "a type's name has 1 to 256 bytes, and its alignment is a power of two",
-        "an attribute's key has 1 to 64 bytes, and its value at most 256",
-        "there are as many attributes as there may be",
-        "the pattern has no such setting", "there is no such pattern", "there is no such call", "no request is pending",
-        "there are the slots 0 to 63", "the slot holds a factory", "the slot holds none", "an index past the end",
-        "the call was refused", "the storage didn't release it", "the setting has no value", "the session isn't open",
-        "the session is open already", "a request is in the name of the session's own node",
-        "the log, its folder or a node's file refuses", "the program that holds the session has ended",
-        "the program can't be started", "a process that is alive has the node, or no node is free",
-        "only a session over a log has nodes", "the line is no command", "the node is alive",
-    };
-    return code < sizeof texts / sizeof *texts ? texts[code] : "no such code";
+    return code < sizeof code_texts / sizeof *code_texts ? code_texts[code] : "no such code";
 }

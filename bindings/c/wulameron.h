@@ -164,10 +164,11 @@ uint32_t wulameron_refusal_advice(uint32_t refusal, char *output, size_t size, s
 /* Opens a session over a new table. `version` is WULAMERON_VERSION. *out is null where the code isn't WULAMERON_OK. */
 uint32_t wulameron_open_table(uint32_t version, wulameron_session **out);
 /* Opens a session over the log in the file `path`, which is made where there is none, and claims `node` there, or with
- * WULAMERON_ANY_NODE the lowest that is free. A program holds it, `wulameron session`: `program` is its path, or a name
- * that is looked for on the PATH; null stands for what the variable WULAMERON_PROGRAM names, or else for `wulameron`. A
- * null `path` stands for that program's own default. Both end with a 0. What is wrong goes into `message`: as much of
- * it as there is room for. *length is how many bytes the whole has; `length` may be null. *out is null then.
+ * WULAMERON_ANY_NODE the lowest that is free. A program holds it, `wulameron run --escaped`: `program` is its path, or
+ * a name that is looked for on the PATH; null stands for what the variable WULAMERON_PROGRAM names, or else for
+ * `wulameron`. A null `path` stands for that program's own default. Both end with a 0. What is wrong goes into
+ * `message`: as much of it as there is room for. *length is how many bytes the whole has; `length` may be null. *out is
+ * null then.
  * The program has its own process group, and a socket as its standard input and output. Where this process ends in
  * whatever way, it closes what the slots hold, and ends. Where it is killed itself, its node is dead, and what that had
  * is given back by the next one that starts at the log. In the child of a fork the session gives WULAMERON_ENDED. */

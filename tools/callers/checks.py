@@ -31,6 +31,11 @@ class Checks:
         folder.mkdir()
         return folder
 
+    def server_room(self):
+        """The path of a new folder for a server's files, which its user reaches."""
+        self.room.chmod(0o755)
+        return self.room / "server"
+
     def counts(self, holds, what):
         """Counts one check, and tells whether it holds."""
         if holds:

@@ -6,8 +6,8 @@ from callers.checks import C, OUT, TOP, VALGRIND
 FLAGS = ["-std=c99", "-Wall", "-Wextra", "-Wpedantic", "-Werror", "-O1", "-g", f"-I{C}"]
 SANITIZED = ["-fsanitize=address,undefined", "-fno-sanitize-recover=all"]
 WRAPPED = ["-Wl,--wrap=malloc,--wrap=realloc,--wrap=calloc"]
-IMPATIENT = ["-DPATIENCE=3", "-pthread"]
-SHIM = [C / f"{name}.c" for name in ("wulameron", "log", "frames")]
+IMPATIENT = ["-DPATIENCE=3", "-DLONGEST=65536", "-pthread"]
+SHIM = [C / f"{name}.c" for name in ("wulameron", "lines", "transport")]
 # The programs, their flags, the sources that they are compiled with beside the archive, and over what they run.
 PROGRAMS = (
     ("calls", [], [], ("tables", "logs")),
@@ -31,7 +31,8 @@ def headers(checks):
     checks.counts(exported == declared, f"the archive and wulameron_c.h differ in {sorted(exported ^ declared)}")
     given = set(re.findall(r" T (\w+)", checks.ran(["nm", "-D", "--defined-only", OUT / "libwulameron.so"]).stdout))
     named = set(re.findall(r"\b(wulameron_\w+)\(", (C / "wulameron.h").read_text(encoding="utf-8")))
-    missing, more = named - given, {name for name in given - named if name.startswith("wulameron_log_")}
+    missing = named - given
+    more = {name for name in given - named - exported if name.startswith("wulameron_")}
     checks.counts(not missing and not more, f"the shared object lacks {sorted(missing)}, and has {sorted(more)}")
 
 
