@@ -102,23 +102,6 @@ class Calls(unittest.TestCase):
             row = section[section.index("| `DoesNotExist` |") :].partition("\n")[0]
             self.assertEqual(row, f"| `DoesNotExist` | {error.text} | {error.advice} |")
 
-    def test_listing(self):
-        """The entries of a listing."""
-        with w.Session() as session:
-            self.create_lamps(session)
-            hash_of = hashlib.sha1(b"elamps").digest()
-            self.assertEqual(session.entries(), [w.Entry(w.PUBLISHED, w.EVENT, 0, 1, 2, "lamps", hash_of)])
-
-    def test_lines(self):
-        """Lines have the replies of docs/PROGRAM.md, and one that is no command a text."""
-        with w.Session() as session:
-            self.assertEqual(session.line("event create 1 0 lamps").strip(), "ok 0 number=0")
-            self.assertEqual(session.number(0, w.MAX_LISTENERS), 16)
-            with self.assertRaises(w.WulameronError) as error:
-                session.line("event crate 1 0 lamps")
-            self.assertIs(error.exception.code, w.Code.BAD_LINE)
-            self.assertIn("create", error.exception.message)
-
     def test_numbers(self):
         """The numbers here are those of the header, and so are the codes."""
         header = w.numbers_of_header()
@@ -128,6 +111,55 @@ class Calls(unittest.TestCase):
         for code in w.Code:
             self.assertEqual(header[code.name], code, code.name)
         self.assertGreater(len(header), 90)
+
+
+class Looks(unittest.TestCase):
+    """The services, the lines and the nodes of a session, alike over a table and over a log."""
+
+    def looks(self, session, node):
+        """What stands is seen, and lines have the replies of docs/PROGRAM.md."""
+        session.begin(w.EVENT, w.CREATE, node, "lamps")
+        session.set_number(w.MAX_NODES, 2)
+        session.send(0)
+        hash_of = hashlib.sha1(b"elamps").digest()
+        self.assertEqual(session.entries(), [w.Entry(w.PUBLISHED, w.EVENT, 0, 1, 2, "lamps", hash_of)])
+        self.assertTrue(session.line(f"rr create {node} 1 oven max_servers=3").startswith("ok 1 number="))
+        self.assertEqual(session.number(1, w.MAX_SERVERS), 3)
+        self.assertEqual({entry.name for entry in session.entries()}, {"lamps", "oven"})
+        self.assertIn("lamps", session.line("list"))
+        self.assertEqual(session.line("").strip(), "")
+        self.assertEqual(session.line("close 1").strip(), "closed 1")
+        with self.assertRaises(w.WulameronError) as error:
+            session.line("event crate 1 0 lamps")
+        self.assertIs(error.exception.code, w.Code.BAD_LINE)
+        self.assertIn("create", error.exception.message)
+        session.close(0)
+        self.assertEqual(session.entries(), [])
+
+    def test_table(self):
+        """Over a table, which has no nodes."""
+        with w.Session() as session:
+            self.looks(session, 7)
+            for call in (session.nodes, session.clean, lambda: session.node):
+                with self.assertRaises(w.WulameronError) as error:
+                    call()
+                self.assertIs(error.exception.code, w.Code.ONLY_OVER_LOG)
+
+    def test_log(self):
+        """Over a log, whose path and program are given."""
+        with tempfile.TemporaryDirectory(prefix="wulameron-") as folder:
+            words = {"path": pathlib.Path(folder) / "log", "program": os.environ["WULAMERON_PROGRAM"]}
+            with w.Session(node=5, **words) as session:
+                self.looks(session, 5)
+                with w.Session(node=9, **words):
+                    self.assertEqual(session.nodes(), [(5, True), (9, True)])
+                    for node, code in ((9, w.Code.NODE_ALIVE), (10, w.Code.NO_SUCH_ITEM)):
+                        with self.assertRaises(w.WulameronError) as error:
+                            session.clean(node)
+                        self.assertIs(error.exception.code, code)
+                self.assertEqual(session.nodes(), [(5, True), (9, False)])
+                self.assertEqual(session.clean(dry_run=True), w.Cleaned(0, 0, 0))
+                self.assertEqual(session.clean(9), w.Cleaned(0, 0, 0))
 
 
 CREATOR = """

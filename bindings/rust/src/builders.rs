@@ -64,17 +64,17 @@ pub struct ServiceBuilder {
 impl ServiceBuilder {
     fn send<E: Refusal>(self, pattern: u32, how: u32) -> Result<PortFactory, E> {
         let (session, id, name) = (self.node.session, self.node.number, &self.name);
-        let slot = session.taken.get().trailing_ones();
-        if slot == u64::BITS {
-            return Err(Failure::from(raw::NO_FREE_SLOT).into());
-        }
         session.done(call!(wulameron_begin, session.pointer, pattern, how, id, name.as_ptr(), name.len()))?;
         self.pieces.iter().try_for_each(|piece| session.done(piece(session.pointer)))?;
         let (mut number, mut refusal) = (0, 0);
-        match call!(wulameron_send, session.pointer, slot, &mut number, &mut refusal) {
-            raw::REFUSED => return Err(E::of(refusal)),
-            code => session.done(code)?,
-        }
+        // A slot that a line has filled isn't known here: then the request is pending still, for the next one.
+        let free = (0..u64::BITS).filter(|slot| session.taken.get() >> slot & 1 == 0);
+        let mut sent = free.map(|slot| (slot, call!(wulameron_send, session.pointer, slot, &mut number, &mut refusal)));
+        let slot = match sent.find(|(_, code)| *code != raw::SLOT_IN_USE) {
+            None => return Err(Failure::from(raw::NO_FREE_SLOT).into()),
+            Some((_, raw::REFUSED)) => return Err(E::of(refusal)),
+            Some((slot, code)) => session.done(code).map(|()| slot)?,
+        };
         session.taken.set(session.taken.get() | 1 << slot);
         Ok(PortFactory { session, slot, number })
     }

@@ -28,10 +28,12 @@
 //! What stands at a table or a node is for one thread. A `PortFactory` closes what it holds where it is dropped.
 mod builders;
 mod errors;
+mod looks;
 mod raw;
 
 pub use builders::{Event, PortFactory, PublishSubscribe, RequestResponse, ServiceBuilder, TypeDetail};
 pub use errors::*;
+pub use looks::{Cleaned, Entry, KnownNode, Pattern, State};
 use raw::call;
 use std::cell::Cell;
 use std::ffi::{c_void, CString};
@@ -48,10 +50,11 @@ struct Session {
 }
 
 impl Session {
-    /// What a code stands for, and with a fault of the log what is wrong with it.
+    /// What a code stands for, and with a fault of the log or of a line what is wrong with it.
     fn failure(&self, code: u32) -> Failure {
         let reply = |output, size, length| call!(wulameron_get_reply, self.pointer, output, size, length);
-        let message = if code == raw::LOG { raw::bytes(reply).unwrap_or_default() } else { Vec::new() };
+        let has_message = code == raw::LOG || code == raw::BAD_LINE;
+        let message = if has_message { raw::bytes(reply).unwrap_or_default() } else { Vec::new() };
         Failure { message: String::from_utf8_lossy(&message).into_owned(), ..code.into() }
     }
 
@@ -112,12 +115,6 @@ impl Node {
     /// The builder of a service of this name.
     pub fn service_builder(&self, name: &str) -> ServiceBuilder {
         ServiceBuilder { node: self.clone(), name: name.to_string(), pieces: Vec::new() }
-    }
-
-    /// How many services stand at its table or log.
-    pub fn services(&self) -> Result<u64, Failure> {
-        let mut count = 0;
-        self.session.done(call!(wulameron_list, self.session.pointer, &mut count)).map(|()| count)
     }
 }
 

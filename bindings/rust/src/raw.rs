@@ -5,9 +5,13 @@ pub const VERSION: u32 = 2;
 pub const ANY_NODE: u64 = u64::MAX;
 pub const OK: u32 = 0;
 pub const TOO_SMALL: u32 = 5;
+pub const SLOT_IN_USE: u32 = 17;
 pub const REFUSED: u32 = 20;
 pub const NONE: u32 = 22;
 pub const LOG: u32 = 26;
+pub const BAD_LINE: u32 = 31;
+/// The state of a node whose process is alive.
+pub const ALIVE: u32 = 1;
 /// None of wulameron.h: all 64 slots are taken.
 pub const NO_FREE_SLOT: u32 = 100;
 
@@ -41,8 +45,17 @@ unsafe extern "C" {
     pub fn wulameron_get_number(session: Session, slot: u32, setting: u32, value: Number) -> u32;
     pub fn wulameron_get_bytes(session: Session, slot: u32, output: *mut u8, size: usize, length: Length) -> u32;
     pub fn wulameron_list(session: Session, count: Number) -> u32;
+    pub fn wulameron_get_entry(session: Session, index: u64, state: *mut u32, pattern: *mut u32, number: Number,
+        nodes: Number, max_nodes: Number) -> u32;
+    pub fn wulameron_get_entry_name(session: Session, index: u64, output: *mut u8, size: usize, length: Length) -> u32;
+    pub fn wulameron_get_entry_hash(session: Session, index: u64, output: *mut u8, size: usize, length: Length) -> u32;
+    pub fn wulameron_line(session: Session, line: *const u8, length: usize) -> u32;
     pub fn wulameron_get_reply(session: Session, output: *mut u8, size: usize, length: Length) -> u32;
     pub fn wulameron_node(session: Session, node: Number) -> u32;
+    pub fn wulameron_nodes(session: Session, count: Number) -> u32;
+    pub fn wulameron_get_node(session: Session, index: u64, node: Number, state: *mut u32) -> u32;
+    pub fn wulameron_clean(session: Session, node: u64, dry_run: u32, nodes: Number, releases: Number,
+        removals: Number) -> u32;
 }
 
 /// Makes a call. What each use keeps: the session is open and of this thread, a text has as many bytes as its length or

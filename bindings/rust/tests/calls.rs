@@ -167,6 +167,60 @@ fn nodes_meet_over_a_log() -> Outcome {
     Ok(())
 }
 
+/// Over a table and over a log there are the same services and lines, and over a log there are nodes too.
+fn looks(node: &Node) -> Outcome {
+    let lamps = node.service_builder("lamps").event().max_nodes(2).max_listeners(4).create()?;
+    let entries = node.entries()?;
+    assert_eq!((entries.len(), node.services()?), (1, 1));
+    let [entry] = &entries[..] else { panic!("there is one service") };
+    assert_eq!((entry.state, entry.pattern, entry.name.as_str()), (State::Published, Some(Pattern::Event), "lamps"));
+    assert_eq!((entry.number, entry.nodes, entry.max_nodes, entry.hash.len()), (lamps.number(), 1, 2, 20));
+    // The builder's own slot is taken, and the next one goes to a line; another builder takes one that is free.
+    let line = format!("rr create {} 1 oven max_servers=3", node.number());
+    assert!(node.line(&line)?.starts_with("ok 1 number="));
+    let camera = node.service_builder("camera").publish_subscribe().create()?;
+    assert_eq!(node.entries()?.iter().filter(|entry| entry.pattern == Some(Pattern::RequestResponse)).count(), 1);
+    assert!(node.line("list")?.contains("lamps"));
+    assert_eq!(node.line("")?.trim(), "");
+    assert_eq!(node.line("close 1")?.trim(), "closed 1");
+    let wrong = node.line("event crate 1 0 lamps").err();
+    assert_eq!(wrong.as_ref().map(|failure| failure.code), Some(Code::BadLine));
+    assert!(wrong.is_some_and(|failure| failure.message.contains("create")));
+    camera.close()?;
+    lamps.close()?;
+    assert_eq!(node.entries()?, []);
+    Ok(())
+}
+
+#[test]
+fn a_table_is_looked_at() -> Outcome {
+    let node = Node::new(&Table::new()?, 7);
+    looks(&node)?;
+    for code in [node.nodes().err(), node.clean(None, true).err()] {
+        assert_eq!(code.map(|failure| failure.code), Some(Code::OnlyOverLog));
+    }
+    Ok(())
+}
+
+#[test]
+fn a_log_is_looked_at() -> Outcome {
+    let log = Log::new("look")?;
+    let program = std::env::var_os("WULAMERON_PROGRAM").map(PathBuf::from);
+    let builder = NodeBuilder { path: Some(log.path()), program, ..NodeBuilder::default() };
+    let node = NodeBuilder { number: Some(5), ..builder.clone() }.create()?;
+    looks(&node)?;
+    let other = NodeBuilder { number: Some(9), ..builder }.create()?;
+    let known = |number, is_alive| KnownNode { number, is_alive };
+    assert_eq!(node.nodes()?, [known(5, true), known(9, true)]);
+    assert_eq!(node.clean(Some(9), false).err().map(|failure| failure.code), Some(Code::NodeAlive));
+    assert_eq!(node.clean(Some(10), false).err().map(|failure| failure.code), Some(Code::NoSuchItem));
+    drop(other);
+    assert_eq!(node.nodes()?, [known(5, true), known(9, false)]);
+    let nothing = Cleaned { nodes: 0, releases: 0, removals: 0 };
+    assert_eq!((node.clean(None, true)?, node.clean(Some(9), false)?), (nothing, nothing));
+    Ok(())
+}
+
 /// Another process finds what this one holds, by the program's own words.
 #[test]
 fn other_programs_find_it() -> Outcome {
