@@ -12,14 +12,7 @@ use Rattle.negotiate_lines.specs.declared.question.Question.{Question}
 use Rattle.negotiate_lines.specs.declared.question.Question.TheVariants as question
 use Rattle.negotiate_serve.specs.Replies.{GrowsBy}
 use Rattle.escaped_serve.specs.Answered.{ShowsSome}
-use Rattle.escaped_serve.specs.Questions.{AnswersQuestion, IsRefusalReply}
-
--- the texts of a refusal, and nothing changes
-pub refusal_answered : {S : Type 0} (world : S → World) (s : SessionOver S) (number : ℕ) (q : Question) (old new : List ℕ) → q ≡ question.Refusal number
-    → (r : Result (Unit {0}) AllocError) → OnOk r (GrowsBy (IsRefusalReply number) old new) → OnOk r (GrowsBy (λ added. AnswersQuestion world s q added s) old new)
-refusal_answered world s number q old new is (Ok x) grown =
-    subst (λ (p : Question). GrowsBy (λ added. AnswersQuestion world s p added s) old new) (sym is) (grown.0, (refl, grown.1), grown.2)
-refusal_answered world s number q old new is (Err e) grown = tt
+use Rattle.escaped_serve.specs.Questions.{AnswersQuestion}
 
 -- ---- over a table
 

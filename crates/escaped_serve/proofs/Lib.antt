@@ -4,9 +4,7 @@ pub mod Asked
 pub mod EntryTexts
 pub mod PlainLines
 pub mod Listings
-pub mod Numbers
 pub mod OneLine
-pub mod Refusals
 pub mod AskingTexts
 pub mod AskingValues
 pub mod AskingSettings

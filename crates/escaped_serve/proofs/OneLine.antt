@@ -8,8 +8,8 @@ use Rattle.hex.specs.Hex.{encode_lower, encode_with, lower_digits}
 use Rattle.iceoryx2_access.specs.Registered.{Registered}
 use Rattle.iceoryx2_byte_form.proofs.EachByte.{form_bytes}
 use Rattle.iceoryx2_commands.specs.Commands.{slot_count}
-use Rattle.iceoryx2_commands.specs.declared.command.Refusal.{Refusal}
-use Rattle.iceoryx2_commands.specs.declared.command.Refusal.TheVariants as refusal
+use Rattle.iceoryx2_errors.specs.declared.refusal.Refusal.{Refusal}
+use Rattle.iceoryx2_errors.specs.declared.refusal.Refusal.TheVariants as refusal
 use Rattle.iceoryx2_commands.specs.declared.command.Reply.{Reply}
 use Rattle.iceoryx2_commands.specs.declared.command.Reply.TheVariants as reply
 use Rattle.iceoryx2_description.specs.Description.{IsDeadline, IsDescription, IsPattern}
@@ -32,13 +32,14 @@ use Rattle.iceoryx2_world.specs.declared.listing.ListedRow.TheVariants as row
 use Rattle.iceoryx2_world.specs.declared.listing.ListedSegment.{ListedSegment}
 use Rattle.negotiate_explain.specs.Refusals.{refusal_row}
 use Rattle.negotiate_lines.specs.Leaves.{leaf_of}
-use Rattle.negotiate_serve.specs.Replies.{pattern_term, refusal_text}
+use Rattle.negotiate_serve.specs.Replies.{pattern_term}
+use Rattle.iceoryx2_errors.specs.Texts.{text_of}
 use Rattle.escaped_serve.specs.Asking.{IsPrintable, asking}
 use Rattle.escaped_serve.specs.Entries.{AreEntryTexts, IsEntryText, TellsEntries, none, first, known_name, known_pattern, max_nodes_of, nodes_of, service_number, state_term}
 use Rattle.escaped_serve.specs.Lines.{plain_reply, wrong_reply}
 use Rattle.escaped_serve.specs.OneLine.{IsEntryWithin, IsOneLine, IsShort, IsWithin}
-use Rattle.escaped_serve.specs.Questions.{IsBytesReply, IsRefusalReply, of_one, of_none, abandoned_reply, agreed_reply, created_of, empty_reply, number_or_none, refusal_reply, shown_reply, time_or_none}
-use Rattle.escaped_serve.specs.Refusals.{number_of}
+use Rattle.escaped_serve.specs.Questions.{IsBytesReply, abandoned_reply, agreed_reply, created_of, empty_reply, number_or_none, refusal_reply, shown_reply, time_or_none}
+use Rattle.iceoryx2_errors.specs.Numbers.{number_of, numbered}
 use Rattle.escaped_serve.specs.Replies.{IsEscapedReply, refused_reply}
 use Rattle.escaped_serve.proofs.AskingCall.{one_line}
 use Rattle.escaped_serve.proofs.AskingGraphic.{graphic_all, leaf_graphic, loosely, number_graphic, parts_all}
@@ -116,7 +117,7 @@ small_slot slot below = omega (arith, below)
 
 -- ---- refusals
 
-error_passes : (e : Refusal) → printable_all (refusal_text e) ≡ true
+error_passes : (e : Refusal) → printable_all (text_of e) ≡ true
 unfolding printable_all
 error_passes (refusal.EventOpen opening.DoesNotExist) = refl
 error_passes (refusal.EventCreate creating.ServiceInCorruptedState) = refl
@@ -154,19 +155,18 @@ refused_line : (e : Refusal) → IsOneLine (refused_reply e)
 unfolding printable_all
 refused_line e =
     before (passes (codes "refused ") refl) (before (number (number_of e) (below_limit (number_of e) (number_passes e)))
-    (before (passes (codes " ") refl) (before (passes (refusal_text e) (error_passes e)) line_end)))
+    (before (passes (codes " ") refl) (before (passes (text_of e) (error_passes e)) line_end)))
 
-refusal_line : (n : ℕ) (e : Refusal) → n < 2 ^ 64 → IsOneLine (refusal_reply n e)
+refusal_line : (n : ℕ) (r : Option Refusal) → n < 2 ^ 64 → IsOneLine (refusal_reply n r)
 unfolding printable_all
-refusal_line n e small =
-    before (passes (codes "refusal ") refl) (before (number n small) (before (passes (codes " ") refl) (before (leaf (refusal_text e))
+refusal_line n (Some e) small =
+    before (passes (codes "refusal ") refl) (before (number n small) (before (passes (codes " ") refl) (before (leaf (text_of e))
     (before (passes (codes " ") refl) (before (leaf (refusal_row e).comes_when) (before (passes (codes " ") refl)
     (before (leaf (refusal_row e).what_can_be_done) line_end)))))))
+refusal_line n None small = before (passes (codes "no refusal ") refl) (before (number n small) line_end)
 
-pub refusals : (n : ℕ) (text : List ℕ) → n < 2 ^ 64 → IsRefusalReply n text → IsOneLine text
-unfolding printable_all
-refusals n text small (of_one e is same) = same_line text (refusal_reply n e) same (refusal_line n e small)
-refusals n text small (of_none never same) = same_line text _ same (before (passes (codes "no refusal ") refl) (before (number n small) line_end))
+pub refusals : (n : ℕ) (text : List ℕ) → n < 2 ^ 64 → text ≡ refusal_reply n (numbered n) → IsOneLine text
+refusals n text small same = same_line text (refusal_reply n (numbered n)) same (refusal_line n (numbered n) small)
 
 -- ---- replies
 

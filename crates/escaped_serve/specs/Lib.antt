@@ -1,5 +1,3 @@
-pub mod Refusals
-pub mod Numbered
 pub mod Replies
 pub mod Entries
 pub mod Questions

@@ -1,10 +1,10 @@
 -- What is answered to the questions of an escaped session.
-use Rattle.std.specs.Prelude.{◌≡◌, ◌≢◌, ℕ, List, ◌++◌, Option, Some, None, codes, decimal, slice_set}
+use Rattle.std.specs.Prelude.{◌≡◌, ℕ, List, ◌++◌, Option, Some, None, codes, decimal, slice_set}
 use Rattle.std.specs.Option.{option_map}
 use Rattle.hex.specs.Hex.{encode_lower}
 use Rattle.iceoryx2_access.specs.Registered.{Registered}
 use Rattle.iceoryx2_byte_form.specs.Form.{IsForm}
-use Rattle.iceoryx2_commands.specs.declared.command.Refusal.{Refusal}
+use Rattle.iceoryx2_errors.specs.declared.refusal.Refusal.{Refusal}
 use Rattle.iceoryx2_description.specs.Span.{Span}
 use Rattle.iceoryx2_description.specs.declared.description.MessagingPattern.{MessagingPattern}
 use Rattle.iceoryx2_description.specs.declared.description.MessagingPattern.TheVariants as pattern
@@ -17,10 +17,10 @@ use Rattle.negotiate_explain.specs.Refusals.{refusal_row}
 use Rattle.negotiate_lines.specs.Leaves.{leaf_of}
 use Rattle.negotiate_lines.specs.declared.question.Question.{Question}
 use Rattle.negotiate_lines.specs.declared.question.Question.TheVariants as question
-use Rattle.negotiate_serve.specs.Replies.{refusal_text}
+use Rattle.iceoryx2_errors.specs.Texts.{text_of}
 use Rattle.escaped_serve.specs.Asking.{asking}
 use Rattle.escaped_serve.specs.Entries.{TellsEntries}
-use Rattle.escaped_serve.specs.Refusals.{number_of}
+use Rattle.iceoryx2_errors.specs.Numbers.{numbered}
 
 -- ---- of a slot
 
@@ -69,18 +69,13 @@ abandoned_reply slot None = empty_reply slot
 
 -- ---- of a refusal
 
--- its name, when it comes, and what can be done
-abbrev pub refusal_reply : (number : ℕ) → Refusal → List ℕ
-refusal_reply number e =
-    codes "refusal " ++ (decimal number ++ (codes " " ++ (leaf_of (refusal_text e) ++ (codes " "
+-- its name, when it comes, and what can be done; or that no refusal has this number
+abbrev pub refusal_reply : (number : ℕ) → Option Refusal → List ℕ
+refusal_reply number (Some e) =
+    codes "refusal " ++ (decimal number ++ (codes " " ++ (leaf_of (text_of e) ++ (codes " "
     ++ (leaf_of (refusal_row e).comes_when ++ (codes " " ++ (leaf_of (refusal_row e).what_can_be_done
     ++ codes "\n")))))))
-
--- The number is that of this refusal, or of none.
-pub data IsRefusalReply (number : ℕ) (text : List ℕ) : Type 0 where
-  of_one : (e : Refusal) → number_of e ≡ number → text ≡ refusal_reply number e → IsRefusalReply number text
-  of_none : ((e : Refusal) → number_of e ≢ number) → text ≡ codes "no refusal " ++ (decimal number ++ codes "\n")
-      → IsRefusalReply number text
+refusal_reply number None = codes "no refusal " ++ (decimal number ++ codes "\n")
 
 -- ---- of each
 
@@ -106,7 +101,8 @@ AnswersQuestion world old (question.Abandon slot) text new =
     × (text ≡ abandoned_reply slot (held_at old.slots slot))
 AnswersQuestion world old question.Entries text new =
     (new ≡ old) × ((entries : List Entry) × Lists (world old.table) entries × TellsEntries entries text)
-AnswersQuestion world old (question.Refusal number) text new = (new ≡ old) × IsRefusalReply number text
+AnswersQuestion world old (question.Refusal number) text new =
+    (new ≡ old) × (text ≡ refusal_reply number (numbered number))
 AnswersQuestion world old question.Nodes text new = (new ≡ old) × (text ≡ only_over_a_log)
 AnswersQuestion world old (question.Clean only) text new = (new ≡ old) × (text ≡ only_over_a_log)
 AnswersQuestion world old (question.Rehearse only) text new = (new ≡ old) × (text ≡ only_over_a_log)

@@ -1,15 +1,16 @@
 -- What the text of a reply is in an escaped session.
 use Rattle.std.specs.Prelude.{◌≡◌, ℕ, List, ◌++◌, codes, decimal}
-use Rattle.iceoryx2_commands.specs.declared.command.Refusal.{Refusal}
+use Rattle.iceoryx2_errors.specs.declared.refusal.Refusal.{Refusal}
 use Rattle.iceoryx2_commands.specs.declared.command.Reply.{Reply}
 use Rattle.iceoryx2_commands.specs.declared.command.Reply.TheVariants as reply
 use Rattle.negotiate_lines.specs.declared.leaf.Form.TheVariants as form
-use Rattle.negotiate_serve.specs.Replies.{IsReplyText, ListsServices, refusal_text}
-use Rattle.escaped_serve.specs.Refusals.{number_of}
+use Rattle.negotiate_serve.specs.Replies.{IsReplyText, ListsServices}
+use Rattle.iceoryx2_errors.specs.Texts.{text_of}
+use Rattle.iceoryx2_errors.specs.Numbers.{number_of}
 
 -- the number of a refusal, and the text of its error
 abbrev pub refused_reply : Refusal → List ℕ
-refused_reply e = codes "refused " ++ (decimal (number_of e) ++ (codes " " ++ (refusal_text e ++ codes "\n")))
+refused_reply e = codes "refused " ++ (decimal (number_of e) ++ (codes " " ++ (text_of e ++ codes "\n")))
 
 -- The text of a reply to a command for this slot: a refusal has its number, and the names in a listing are leaves. All
 -- else is as in plain lines.

@@ -1,6 +1,6 @@
 //! That answers are lines.
 
-ghost use Rattle.std.specs.Prelude.{◌<◌, ◌^◌, ℕ, All, List, Option, length};
+ghost use Rattle.std.specs.Prelude.{◌≡◌, ◌<◌, ◌^◌, ℕ, All, List, Option, length};
 ghost use Rattle.iceoryx2_access.specs.Registered.{Registered};
 ghost use Rattle.iceoryx2_commands.specs.Commands.{slot_count};
 ghost use Rattle.iceoryx2_commands.specs.declared.command.Reply.{Reply};
@@ -8,7 +8,8 @@ ghost use Rattle.iceoryx2_world.specs.declared.listing.Entry.{Entry};
 ghost use Rattle.escaped_serve.specs.Entries.{TellsEntries};
 ghost use Rattle.escaped_serve.specs.Lines.{plain_reply, wrong_reply};
 ghost use Rattle.escaped_serve.specs.OneLine.{IsEntryWithin, IsOneLine, IsShort, IsWithin};
-ghost use Rattle.escaped_serve.specs.Questions.{IsBytesReply, IsRefusalReply, abandoned_reply, only_over_a_log};
+ghost use Rattle.iceoryx2_errors.specs.Numbers.{numbered};
+ghost use Rattle.escaped_serve.specs.Questions.{IsBytesReply, abandoned_reply, only_over_a_log, refusal_reply};
 ghost use Rattle.escaped_serve.specs.Questions.{shown_reply};
 ghost use Rattle.escaped_serve.specs.Replies.{IsEscapedReply};
 
@@ -25,7 +26,7 @@ pub fn law_of_one_line()
         → IsOneLine (abandoned_reply slot held) }
     ensures entries { (entries : List Entry) (text : List ℕ) → length entries < 2 ^ 64
         → All IsEntryWithin entries → TellsEntries entries text → IsOneLine text }
-    ensures refusals { (number : ℕ) (text : List ℕ) → number < 2 ^ 64 → IsRefusalReply number text
+    ensures refusals { (number : ℕ) (text : List ℕ) → number < 2 ^ 64 → text ≡ refusal_reply number (numbered number)
         → IsOneLine text }
     ensures others { IsOneLine only_over_a_log }
     ensures plain { (told : List ℕ) → IsOneLine (plain_reply told) }

@@ -7,8 +7,7 @@
 //! `negotiate` does (`SessionReplies`). `reply::describe_escaped` writes a reply, a refusal with its number and the
 //! names in a listing as leaves (`IsEscapedReply`). `questions::answer_question` answers a question over any storage
 //! that shows a world (`AnswersQuestion`): what was agreed on in a slot, its bytes, an abandon, after which the slot is
-//! empty and nothing else changed, the entries of the listing, and the texts of a refusal, which `refusal_of` finds by
-//! its number (`IsNumbered`); no two have one (`numbers_of_refusals_differ`).
+//! empty and nothing else changed, the entries of the listing, and the texts of the refusal of a number (`numbered`).
 //!
 //! `asking::write_asking` writes what was agreed on as the line that asks for it (`asking`). Read as an escaped line it
 //! asks for the same, and is nothing else (`law_of_asking`). `laws::law_of_one_line`: each answer but to a list is one
@@ -20,7 +19,5 @@ pub mod asking;
 pub mod entries;
 pub mod laws;
 pub mod lines;
-pub mod numbered;
 pub mod questions;
-pub mod refusal;
 pub mod reply;

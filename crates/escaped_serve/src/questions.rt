@@ -4,18 +4,17 @@ ghost use Rattle.std.specs.Prelude.{◌≡◌, ◌++◌, IfOk, OnErr, OnOk, slic
 ghost use Rattle.iceoryx2_session.specs.SessionStates.{own_nodes, own_state, world_state};
 ghost use Rattle.iceoryx2_session.specs.Slots.{held_at};
 ghost use Rattle.iceoryx2_session.specs.StandingSlots.{SlotsStandInWorld};
+ghost use Rattle.iceoryx2_errors.specs.Numbers.{numbered};
 ghost use Rattle.negotiate_lines.specs.Leaves.{leaf_of};
 ghost use Rattle.negotiate_lines.specs.declared.question.Question.TheVariants as question;
 ghost use Rattle.negotiate_serve.specs.Replies.{GrowsBy};
 ghost use Rattle.escaped_serve.specs.Asking.{asking};
-ghost use Rattle.escaped_serve.specs.Questions.{AnswersQuestion, IsBytesReply, IsNoPlain, IsRefusalReply};
+ghost use Rattle.escaped_serve.specs.Questions.{AnswersQuestion, IsBytesReply, IsNoPlain};
 ghost use Rattle.escaped_serve.specs.Questions.{abandoned_reply, agreed_reply, created_of, number_or_none};
 ghost use Rattle.escaped_serve.specs.Questions.{refusal_reply, shown_reply, time_or_none};
 
 use crate::asking::write_asking;
 use crate::entries::describe_entries;
-use crate::numbered::refusal_of;
-use crate::reply::describe_error;
 use iceoryx2_byte_form::bytes::encode;
 use iceoryx2_commands::command::Refusal;
 use iceoryx2_description::description::{MessagingPattern, StaticConfig};
@@ -222,20 +221,19 @@ fn show_entries<S: WorldStorage>(session: &Session<S>, text: &mut String) -> Res
 
 /// Writes the texts of the refusal of a number, or that there is none.
 fn describe_refusal(number: u64, text: &mut String) -> Result<(), AllocError>
-    ensures { OnOk result (GrowsBy (IsRefusalReply number) (string_bytes text.old) (string_bytes text.new)) }
+    ensures { OnOk result (string_bytes text.new ≡ string_bytes text.old ++ refusal_reply number (numbered number)) }
 {
-    match refusal_of(number) {
+    match Refusal::from_number(number) {
         Some(refusal) => describe_row(number, refusal, text),
         None => writeln!(text, "no refusal {number}"),
     }
 }
 
 fn describe_row(number: u64, refusal: Refusal, text: &mut String) -> Result<(), AllocError>
-    ensures { OnOk result (string_bytes text.new ≡ string_bytes text.old ++ refusal_reply number refusal) }
+    ensures { OnOk result (string_bytes text.new ≡ string_bytes text.old ++ refusal_reply number (Some refusal)) }
 {
     let alloc = *text.allocator();
-    let mut error = String::new(alloc);
-    describe_error(refusal, &mut error)?;
+    let error = format!(in alloc; "{refusal}")?;
     let row = RefusalRow::of(refusal);
     let name = leaf_text(alloc, &error)?;
     let comes_when = leaf_text(alloc, row.comes_when)?;

@@ -1,10 +1,9 @@
 //! The texts of replies to commands in an escaped session.
 
 ghost use Rattle.std.specs.Prelude.{◌≡◌, ◌++◌, OnOk, string_bytes};
-ghost use Rattle.negotiate_serve.specs.Replies.{GrowsBy, refusal_text};
+ghost use Rattle.negotiate_serve.specs.Replies.{GrowsBy};
 ghost use Rattle.escaped_serve.specs.Replies.{IsEscapedReply, refused_reply};
 
-use crate::refusal::number_of;
 use iceoryx2_commands::command::{Refusal, Reply};
 use negotiate_lines::leaf::Form;
 use negotiate_serve::reply::{describe, describe_services};
@@ -27,25 +26,6 @@ pub fn describe_escaped(reply: &Reply, slot: usize, text: &mut String) -> Result
 fn describe_refused(refusal: Refusal, text: &mut String) -> Result<(), AllocError>
     ensures { OnOk result (string_bytes text.new ≡ string_bytes text.old ++ refused_reply refusal) }
 {
-    let number = number_of(refusal);
-    write!(text, "refused {number} ")?;
-    describe_error(refusal, text)?;
-    text.push_str("\n")
-}
-
-/// Writes the text of the error that a refusal has. `AllocError` where the text finds no memory.
-pub fn describe_error(refusal: Refusal, text: &mut String) -> Result<(), AllocError>
-    ensures { OnOk result (string_bytes text.new ≡ string_bytes text.old ++ refusal_text refusal) }
-{
-    match refusal {
-        Refusal::EventOpen(error) => write!(text, "{error}"),
-        Refusal::EventCreate(error) => write!(text, "{error}"),
-        Refusal::EventOpenOrCreate(error) => write!(text, "{error}"),
-        Refusal::PublishSubscribeOpen(error) => write!(text, "{error}"),
-        Refusal::PublishSubscribeCreate(error) => write!(text, "{error}"),
-        Refusal::PublishSubscribeOpenOrCreate(error) => write!(text, "{error}"),
-        Refusal::RequestResponseOpen(error) => write!(text, "{error}"),
-        Refusal::RequestResponseCreate(error) => write!(text, "{error}"),
-        Refusal::RequestResponseOpenOrCreate(error) => write!(text, "{error}"),
-    }
+    let number = refusal.number();
+    writeln!(text, "refused {number} {refusal}")
 }

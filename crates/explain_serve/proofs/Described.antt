@@ -7,7 +7,7 @@ use Rattle.iceoryx2_world.specs.declared.listing.Entry.{Entry}
 use Rattle.iceoryx2_world.specs.Listing.{Lists}
 use Rattle.iceoryx2_world.specs.World.{World}
 use Rattle.iceoryx2_commands.specs.declared.command.Call.{Call}
-use Rattle.iceoryx2_commands.specs.declared.command.Refusal.{Refusal}
+use Rattle.iceoryx2_errors.specs.declared.refusal.Refusal.{Refusal}
 use Rattle.iceoryx2_commands.specs.declared.command.Reply.{Reply}
 use Rattle.negotiate_serve.specs.Replies.{GrowsBy, IsReplyText}
 use Rattle.negotiate_lines.specs.Lines.{without_last}

@@ -15,28 +15,30 @@ use Rattle.iceoryx2_errors.specs.declared.error.request_response.RequestResponse
 use Rattle.iceoryx2_errors.specs.declared.error.request_response.RequestResponseCreateError.{RequestResponseCreateError}
 use Rattle.iceoryx2_errors.specs.declared.error.request_response.RequestResponseCreateError.TheVariants as request_creating
 use Rattle.iceoryx2_request_response_builder.specs.RequestResponse.{request_response_retried}
-use Rattle.iceoryx2_builder.specs.Retries.{event_open_is_retried, event_create_is_retried, publish_subscribe_open_is_retried, publish_subscribe_create_is_retried, request_response_open_is_retried, request_response_create_is_retried}
+use Rattle.iceoryx2_errors.specs.Reasons.{is_retried, event_open_reason, event_create_reason}
+use Rattle.iceoryx2_errors.specs.Reasons.{publish_subscribe_open_reason, publish_subscribe_create_reason}
+use Rattle.iceoryx2_errors.specs.Reasons.{request_response_open_reason, request_response_create_reason}
 
-pub event_opens : (error : EventOpenError) → event_retried.of_open error ≡ event_open_is_retried error
+pub event_opens : (error : EventOpenError) → event_retried.of_open error ≡ is_retried (event_open_reason error)
 event_opens opening.DoesNotExist = refl
 event_opens error = refl
 
-pub event_creates : (error : EventCreateError) → event_retried.of_create error ≡ event_create_is_retried error
+pub event_creates : (error : EventCreateError) → event_retried.of_create error ≡ is_retried (event_create_reason error)
 event_creates creating.ServiceInCorruptedState = refl
 event_creates error = refl
 
-pub publish_subscribe_opens : (error : PublishSubscribeOpenError) → publish_subscribe_retried.of_open error ≡ publish_subscribe_open_is_retried error
+pub publish_subscribe_opens : (error : PublishSubscribeOpenError) → publish_subscribe_retried.of_open error ≡ is_retried (publish_subscribe_open_reason error)
 publish_subscribe_opens subscribe_opening.DoesNotExist = refl
 publish_subscribe_opens error = refl
 
-pub publish_subscribe_creates : (error : PublishSubscribeCreateError) → publish_subscribe_retried.of_create error ≡ publish_subscribe_create_is_retried error
+pub publish_subscribe_creates : (error : PublishSubscribeCreateError) → publish_subscribe_retried.of_create error ≡ is_retried (publish_subscribe_create_reason error)
 publish_subscribe_creates subscribe_creating.ServiceInCorruptedState = refl
 publish_subscribe_creates error = refl
 
-pub request_response_opens : (error : RequestResponseOpenError) → request_response_retried.of_open error ≡ request_response_open_is_retried error
+pub request_response_opens : (error : RequestResponseOpenError) → request_response_retried.of_open error ≡ is_retried (request_response_open_reason error)
 request_response_opens request_opening.DoesNotExist = refl
 request_response_opens error = refl
 
-pub request_response_creates : (error : RequestResponseCreateError) → request_response_retried.of_create error ≡ request_response_create_is_retried error
+pub request_response_creates : (error : RequestResponseCreateError) → request_response_retried.of_create error ≡ is_retried (request_response_create_reason error)
 request_response_creates request_creating.AlreadyExists = refl
 request_response_creates error = refl

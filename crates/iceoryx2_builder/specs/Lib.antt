@@ -2,4 +2,3 @@ pub mod Builder
 pub mod Setters
 pub mod Weaker
 pub mod Looks
-pub mod Retries

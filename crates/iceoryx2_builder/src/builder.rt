@@ -49,9 +49,9 @@ ghost use Rattle.iceoryx2_errors.specs.declared.error.publish_subscribe.PublishS
 ghost use Rattle.iceoryx2_errors.specs.declared.error.request_response.RequestResponseOpenError.{RequestResponseOpenError};
 ghost use Rattle.iceoryx2_errors.specs.declared.error.request_response.RequestResponseCreateError.{RequestResponseCreateError};
 ghost use Rattle.iceoryx2_builder.specs.Looks.{AnswersStates, event_fault_of, publish_subscribe_fault_of, request_response_fault_of};
-ghost use Rattle.iceoryx2_builder.specs.Retries.{event_create_is_retried, event_open_is_retried};
-ghost use Rattle.iceoryx2_builder.specs.Retries.{publish_subscribe_create_is_retried, publish_subscribe_open_is_retried};
-ghost use Rattle.iceoryx2_builder.specs.Retries.{request_response_create_is_retried, request_response_open_is_retried};
+ghost use Rattle.iceoryx2_errors.specs.Reasons.{event_create_reason, event_open_reason, is_retried};
+ghost use Rattle.iceoryx2_errors.specs.Reasons.{publish_subscribe_create_reason, publish_subscribe_open_reason};
+ghost use Rattle.iceoryx2_errors.specs.Reasons.{request_response_create_reason, request_response_open_reason};
 
 use iceoryx2_access::storage::Service;
 use iceoryx2_builder_common::base::BuilderWithServiceType;
@@ -336,21 +336,23 @@ pub fn laws_of_looks()
         request_response_fault_of request_response_open_error_of_state request_response_create_error_of_state }
 {}
 
-/// After which errors an open or create goes on to the next round: of each open and each create, error by error.
+/// After which errors an open or create goes on to the next round: those whose reason is retried, of each open and each
+/// create.
 ///
 /// It goes on where the open of a round answers `DoesNotExist`, `ServiceInCorruptedState` or `IsMarkedForDestruction`,
 /// and where its create answers `AlreadyExists`, `IsBeingCreatedByAnotherInstance` or `ServiceInCorruptedState`. Any
 /// other error ends the call.
 pub fn laws_of_retries()
-    ensures event_opens { (error : EventOpenError) → event_retried.of_open error ≡ event_open_is_retried error }
+    ensures event_opens { (error : EventOpenError)
+        → event_retried.of_open error ≡ is_retried (event_open_reason error) }
     ensures event_creates { (error : EventCreateError)
-        → event_retried.of_create error ≡ event_create_is_retried error }
+        → event_retried.of_create error ≡ is_retried (event_create_reason error) }
     ensures publish_subscribe_opens { (error : PublishSubscribeOpenError)
-        → publish_subscribe_retried.of_open error ≡ publish_subscribe_open_is_retried error }
+        → publish_subscribe_retried.of_open error ≡ is_retried (publish_subscribe_open_reason error) }
     ensures publish_subscribe_creates { (error : PublishSubscribeCreateError)
-        → publish_subscribe_retried.of_create error ≡ publish_subscribe_create_is_retried error }
+        → publish_subscribe_retried.of_create error ≡ is_retried (publish_subscribe_create_reason error) }
     ensures request_response_opens { (error : RequestResponseOpenError)
-        → request_response_retried.of_open error ≡ request_response_open_is_retried error }
+        → request_response_retried.of_open error ≡ is_retried (request_response_open_reason error) }
     ensures request_response_creates { (error : RequestResponseCreateError)
-        → request_response_retried.of_create error ≡ request_response_create_is_retried error }
+        → request_response_retried.of_create error ≡ is_retried (request_response_create_reason error) }
 {}

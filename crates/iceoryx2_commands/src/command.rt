@@ -5,11 +5,7 @@ ghost use Rattle.std.specs.Prelude.{◌≡◌};
 use iceoryx2_attribute::attribute::AttributeVerifier;
 use iceoryx2_description::description::ServiceName;
 use iceoryx2_description::time::{ClockFault, Time};
-use iceoryx2_errors::error::{
-    EventCreateError, EventOpenError, EventOpenOrCreateError, PublishSubscribeCreateError,
-    PublishSubscribeOpenError, PublishSubscribeOpenOrCreateError, RequestResponseCreateError,
-    RequestResponseOpenError, RequestResponseOpenOrCreateError,
-};
+pub use iceoryx2_errors::refusal::Refusal;
 pub use iceoryx2_event_builder::event::EventSetter;
 pub use iceoryx2_publish_subscribe_builder::publish_subscribe::PublishSubscribeSetter;
 pub use iceoryx2_request_response_builder::request_response::RequestResponseSetter;
@@ -65,20 +61,6 @@ pub enum Command {
     Close { slot: usize },
     /// Lists the table's services.
     List,
-}
-
-/// Why a builder call was refused.
-#[derive(Clone, Copy, Debug, PartialEq, Eq)]
-pub enum Refusal {
-    EventOpen(EventOpenError),
-    EventCreate(EventCreateError),
-    EventOpenOrCreate(EventOpenOrCreateError),
-    PublishSubscribeOpen(PublishSubscribeOpenError),
-    PublishSubscribeCreate(PublishSubscribeCreateError),
-    PublishSubscribeOpenOrCreate(PublishSubscribeOpenOrCreateError),
-    RequestResponseOpen(RequestResponseOpenError),
-    RequestResponseCreate(RequestResponseCreateError),
-    RequestResponseOpenOrCreate(RequestResponseOpenOrCreateError),
 }
 
 /// What a session answers.

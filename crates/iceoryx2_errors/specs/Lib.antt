@@ -1,3 +1,5 @@
+pub mod Equality
+pub mod Reasons
 pub mod Texts
+pub mod Numbers
 pub mod States
-pub mod AnyError

@@ -1,20 +1,12 @@
 //! Why calls are refused, and what their texts are.
 
 ghost use Rattle.std.specs.Prelude.{◌≡◌, ◌++◌, codes, Some};
-ghost use Rattle.iceoryx2_errors.specs.AnyError.{AnyError, IsEquality, text_of};
-ghost use Rattle.iceoryx2_errors.specs.Texts.{close_error_name};
+ghost use Rattle.iceoryx2_errors.specs.Equality.{IsEquality};
+ghost use Rattle.iceoryx2_errors.specs.Texts.{close_error_name, text_of};
+ghost use Rattle.iceoryx2_errors.specs.declared.refusal.Refusal.{Refusal};
 
 use std::error::Error;
 use std::fmt;
-
-/// The variant's own name.
-macro_rules! name_of {
-    ($error:expr, $kind:ident: $($variant:ident)*) => {
-        match $error {
-            $($kind::$variant => stringify!($variant),)*
-        }
-    };
-}
 
 /// What a call whose look finds a state says, and what it says of a service of another pattern.
 macro_rules! error_of {
@@ -43,7 +35,7 @@ pub use request_response::{
 
 /// An error is known by its text: of the 163 values of the nine enums, no two have the same one.
 pub fn texts_of_errors_differ()
-    ensures { (one other : AnyError) → text_of one ≡ text_of other → one ≡ other }
+    ensures { (one other : Refusal) → text_of one ≡ text_of other → one ≡ other }
 {}
 
 /// Two errors of one enum, or two states of a look, are equal by `==` exactly if they are the same

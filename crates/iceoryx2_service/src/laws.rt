@@ -6,6 +6,7 @@ pub use iceoryx2_call_laws::fault_laws::agreement_under_faults;
 pub use iceoryx2_call_laws::laws::{agreement, promise_of_lawful_calls};
 pub use iceoryx2_call_laws::quiet_laws::{quiet_calls, quiet_laws};
 pub use iceoryx2_errors::error::{equality_of_errors, texts_of_errors_differ};
+pub use iceoryx2_errors::refusal::refusals_are_known;
 pub use iceoryx2_file_log::header::{laws_of_headers, lengths as lengths_of_headers};
 pub use iceoryx2_file_log::medium::laws_of_media;
 pub use iceoryx2_file_log::remainder::laws_of_tearing;

@@ -7,6 +7,7 @@ pub use iceoryx2_commands::command::{
     Call, Command, EventSetter, How, PublishSubscribeSetter, Refusal, Reply, RequestResponseSetter,
     SLOTS, Settings,
 };
+pub use iceoryx2_errors::refusal::Reason;
 pub use iceoryx2_session::resuming::{Renewing, Resuming};
 pub use iceoryx2_session::session::{Session, TableSession};
 pub use iceoryx2_session::table_storage::TableStorage;

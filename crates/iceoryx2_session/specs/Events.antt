@@ -12,8 +12,8 @@ use Rattle.iceoryx2_rounds.specs.declared.open_or_create.OpenOrCreateRefusal.The
 use Rattle.iceoryx2_event_builder.specs.declared.event.demand.EventDemand.{EventDemand}
 use Rattle.iceoryx2_event_builder.specs.EventCalls.{event_call}
 use Rattle.iceoryx2_event_builder.specs.Builder.{EventBuilderState}
-use Rattle.iceoryx2_commands.specs.declared.command.Refusal.{Refusal}
-use Rattle.iceoryx2_commands.specs.declared.command.Refusal.TheVariants as refusal
+use Rattle.iceoryx2_errors.specs.declared.refusal.Refusal.{Refusal}
+use Rattle.iceoryx2_errors.specs.declared.refusal.Refusal.TheVariants as refusal
 use Rattle.iceoryx2_session.specs.PatternCalls.{PatternCall, hash_for, refusal_by}
 
 -- how the refusals of the rounds are carried

@@ -6,7 +6,7 @@ use Rattle.iceoryx2_rounds.specs.BuilderCalls.{BuilderCall, ErrorBy, Way, ToCrea
 use Rattle.iceoryx2_rounds.specs.declared.open_or_create.OpenOrCreateRefusal.{OpenOrCreateRefusal}
 use Rattle.iceoryx2_commands.specs.declared.command.How.{How}
 use Rattle.iceoryx2_commands.specs.declared.command.How.TheVariants as how
-use Rattle.iceoryx2_commands.specs.declared.command.Refusal.{Refusal}
+use Rattle.iceoryx2_errors.specs.declared.refusal.Refusal.{Refusal}
 
 pub record PatternCall : Type 1 where
   pub asks : Type 0

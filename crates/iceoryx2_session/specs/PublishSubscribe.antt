@@ -10,8 +10,8 @@ use Rattle.iceoryx2_rounds.specs.declared.open_or_create.OpenOrCreateRefusal.The
 use Rattle.iceoryx2_publish_subscribe_builder.specs.declared.publish_subscribe.demand.PreparedDemand.{PreparedDemand}
 use Rattle.iceoryx2_publish_subscribe_builder.specs.PublishSubscribeCalls.{publish_subscribe_call}
 use Rattle.iceoryx2_publish_subscribe_builder.specs.Builder.{PublishSubscribeBuilderState, message_for}
-use Rattle.iceoryx2_commands.specs.declared.command.Refusal.{Refusal}
-use Rattle.iceoryx2_commands.specs.declared.command.Refusal.TheVariants as refusal
+use Rattle.iceoryx2_errors.specs.declared.refusal.Refusal.{Refusal}
+use Rattle.iceoryx2_errors.specs.declared.refusal.Refusal.TheVariants as refusal
 use Rattle.iceoryx2_session.specs.Markers.{payload_marker, user_header_marker}
 use Rattle.iceoryx2_session.specs.PatternCalls.{PatternCall, hash_for, refusal_by}
 

@@ -6,8 +6,8 @@ use Rattle.iceoryx2_description.specs.declared.description.MessagingPattern.{Mes
 use Rattle.iceoryx2_description.specs.declared.request_response.StaticConfig.{StaticConfig as RequestSettings}
 use Rattle.iceoryx2_description.specs.declared.description.MessagingPattern.TheVariants as pattern
 use Rattle.iceoryx2_commands.specs.declared.command.Call.{Call}
-use Rattle.iceoryx2_commands.specs.declared.command.Refusal.{Refusal}
-use Rattle.iceoryx2_commands.specs.declared.command.Refusal.TheVariants as refusal
+use Rattle.iceoryx2_errors.specs.declared.refusal.Refusal.{Refusal}
+use Rattle.iceoryx2_errors.specs.declared.refusal.Refusal.TheVariants as refusal
 use Rattle.iceoryx2_commands.specs.declared.command.Settings.{Settings}
 use Rattle.iceoryx2_commands.specs.declared.command.Settings.TheVariants as setting
 use Rattle.iceoryx2_event_builder.specs.declared.event.setting.EventSetter.{EventSetter}

@@ -1,7 +1,7 @@
 -- What is printed of a refusal.
 use Rattle.std.specs.Prelude.{ℕ, List, ◌++◌, codes}
-use Rattle.iceoryx2_commands.specs.declared.command.Refusal.{Refusal}
-use Rattle.iceoryx2_commands.specs.declared.command.Refusal.TheVariants as refusal
+use Rattle.iceoryx2_errors.specs.declared.refusal.Refusal.{Refusal}
+use Rattle.iceoryx2_errors.specs.declared.refusal.Refusal.TheVariants as refusal
 use Rattle.negotiate_explain.specs.Rows.{Texts, event_open_row, event_create_row, event_open_or_create_row}
 use Rattle.negotiate_explain.specs.Rows.{publish_subscribe_open_row, publish_subscribe_create_row}
 use Rattle.negotiate_explain.specs.Rows.{publish_subscribe_open_or_create_row, request_response_open_row}

@@ -6,30 +6,15 @@ use Rattle.iceoryx2_description.specs.declared.description.MessagingPattern.{Mes
 use Rattle.iceoryx2_description.specs.declared.description.MessagingPattern.TheVariants as pattern
 use Rattle.iceoryx2_description.specs.Description.{Description}
 use Rattle.iceoryx2_byte_form.specs.Form.{IsForm}
-use Rattle.iceoryx2_errors.specs.AnyError.{text_of}
-use Rattle.iceoryx2_errors.specs.AnyError as error
+use Rattle.iceoryx2_errors.specs.Texts.{text_of}
 use Rattle.iceoryx2_world.specs.declared.listing.Entry.{Entry}
 use Rattle.iceoryx2_world.specs.declared.listing.ListedRow.TheVariants as listed
 use Rattle.iceoryx2_world.specs.declared.listing.ListedSegment.{ListedSegment}
-use Rattle.iceoryx2_commands.specs.declared.command.Refusal.{Refusal}
-use Rattle.iceoryx2_commands.specs.declared.command.Refusal.TheVariants as refusal
 use Rattle.iceoryx2_commands.specs.declared.command.Reply.{Reply}
 use Rattle.iceoryx2_commands.specs.declared.command.Reply.TheVariants as reply
 use Rattle.negotiate_lines.specs.declared.leaf.Form.{Form}
 use Rattle.negotiate_lines.specs.declared.leaf.Form.TheVariants as form
 use Rattle.negotiate_lines.specs.Leaves.{leaf_of}
-
--- an error's text
-abbrev pub refusal_text : Refusal → List ℕ
-refusal_text (refusal.EventOpen e) = text_of (error.EventOpen e)
-refusal_text (refusal.EventCreate e) = text_of (error.EventCreate e)
-refusal_text (refusal.EventOpenOrCreate e) = text_of (error.EventOpenOrCreate e)
-refusal_text (refusal.PublishSubscribeOpen e) = text_of (error.PublishSubscribeOpen e)
-refusal_text (refusal.PublishSubscribeCreate e) = text_of (error.PublishSubscribeCreate e)
-refusal_text (refusal.PublishSubscribeOpenOrCreate e) = text_of (error.PublishSubscribeOpenOrCreate e)
-refusal_text (refusal.RequestResponseOpen e) = text_of (error.RequestResponseOpen e)
-refusal_text (refusal.RequestResponseCreate e) = text_of (error.RequestResponseCreate e)
-refusal_text (refusal.RequestResponseOpenOrCreate e) = text_of (error.RequestResponseOpenOrCreate e)
 
 -- the term by which a pattern's command lines begin
 abbrev pub pattern_term : MessagingPattern → List ℕ
@@ -87,7 +72,7 @@ pub record ListsServices (form : Form) (entries : List Entry) (text : List ℕ) 
 abbrev pub IsReplyText : ℕ → Reply → List ℕ → Type 0
 IsReplyText slot (reply.Opened k n) text =
     text ≡ codes "ok " ++ decimal k ++ codes " number=" ++ decimal n ++ codes "\n"
-IsReplyText slot (reply.Refused e) text = text ≡ refusal_text e ++ codes "\n"
+IsReplyText slot (reply.Refused e) text = text ≡ text_of e ++ codes "\n"
 IsReplyText slot (reply.Closed k) text = text ≡ codes "closed " ++ decimal k ++ codes "\n"
 IsReplyText slot (reply.NotClosed k) text = text ≡ codes "not closed " ++ decimal k ++ codes "\n"
 IsReplyText slot reply.SlotInUse text = text ≡ codes "slot " ++ decimal slot ++ codes " in use\n"

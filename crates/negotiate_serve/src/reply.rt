@@ -5,7 +5,7 @@ ghost use Rattle.negotiate_serve.specs.Replies.{GrowsBy, GrowsByEntry, GrowsBySe
 ghost use Rattle.negotiate_serve.specs.Replies.{how_many_it_has, name_in, pattern_term, who_it_is};
 
 use iceoryx2_byte_form::bytes::{DecodeError, decode};
-use iceoryx2_commands::command::{Refusal, Reply};
+use iceoryx2_commands::command::Reply;
 use iceoryx2_description::description::{MessagingPattern, ServiceHash, StaticConfig};
 use iceoryx2_world::listing::{Entry, ListedRow, ListedSegment};
 use negotiate_lines::leaf::{Form, escape_leaf};
@@ -20,15 +20,7 @@ pub fn describe(reply: &Reply, slot: usize, text: &mut String) -> Result<(), All
 {
     match reply {
         Reply::Opened { slot, number } => writeln!(text, "ok {slot} number={number}"),
-        Reply::Refused(Refusal::EventOpen(error)) => writeln!(text, "{error}"),
-        Reply::Refused(Refusal::EventCreate(error)) => writeln!(text, "{error}"),
-        Reply::Refused(Refusal::EventOpenOrCreate(error)) => writeln!(text, "{error}"),
-        Reply::Refused(Refusal::PublishSubscribeOpen(error)) => writeln!(text, "{error}"),
-        Reply::Refused(Refusal::PublishSubscribeCreate(error)) => writeln!(text, "{error}"),
-        Reply::Refused(Refusal::PublishSubscribeOpenOrCreate(error)) => writeln!(text, "{error}"),
-        Reply::Refused(Refusal::RequestResponseOpen(error)) => writeln!(text, "{error}"),
-        Reply::Refused(Refusal::RequestResponseCreate(error)) => writeln!(text, "{error}"),
-        Reply::Refused(Refusal::RequestResponseOpenOrCreate(error)) => writeln!(text, "{error}"),
+        Reply::Refused(refusal) => writeln!(text, "{refusal}"),
         Reply::Closed { slot } => writeln!(text, "closed {slot}"),
         Reply::NotClosed { slot } => writeln!(text, "not closed {slot}"),
         Reply::SlotInUse => writeln!(text, "slot {slot} in use"),

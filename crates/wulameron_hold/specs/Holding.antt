@@ -4,7 +4,7 @@ use Rattle.std.specs.List.{flat_map}
 use Rattle.iceoryx2_access.specs.Letter.{Letter}
 use Rattle.iceoryx2_commands.specs.declared.command.Call.{Call}
 use Rattle.iceoryx2_commands.specs.declared.command.Command.TheVariants as command
-use Rattle.iceoryx2_commands.specs.declared.command.Refusal.{Refusal}
+use Rattle.iceoryx2_errors.specs.declared.refusal.Refusal.{Refusal}
 use Rattle.iceoryx2_commands.specs.declared.command.Reply.{Reply}
 use Rattle.iceoryx2_commands.specs.declared.command.Reply.TheVariants as reply
 use Rattle.iceoryx2_monitoring.specs.declared.state.NodeStatus.{NodeStatus}

@@ -4,7 +4,7 @@ ghost use Rattle.std.specs.Prelude.{◌≡◌};
 ghost use Rattle.wulameron_hold.specs.Holding.{end_status};
 
 use crate::holding::{HoldError, call_line, hold_call, status_of_hold};
-use iceoryx2_commands::command::{Call, Refusal, Reply};
+use iceoryx2_commands::command::{Call, Refusal};
 use iceoryx2_description::config::Config;
 use iceoryx2_journal::journal::Journal;
 use iceoryx2_log::call_log::SpansCalls;
@@ -19,7 +19,6 @@ use negotiate_lines::wrong::Wrong;
 use negotiate_lines::wrong_text::wrong_text;
 use negotiate_serve::ending::{DONE, FAULT, NOT_A_COMMAND, ServeError};
 use negotiate_serve::output::write_out;
-use negotiate_serve::reply::describe;
 use negotiate_serve::report::report_failure;
 use std::alloc::{AllocError, Global};
 use std::fs::File;
@@ -249,9 +248,6 @@ fn report_refusal<E: Write>(
 
 /// The text of a refusal, and what can be done.
 fn refusal_text(alloc: Global, refusal: Refusal) -> Result<String, AllocError> {
-    let mut text = String::new(alloc);
-    describe(&Reply::Refused(refusal), 0, &mut text)?;
-    let error = text.as_str().trim_end();
     let advice = RefusalRow::of(refusal).what_can_be_done;
-    format!(in alloc; "{error}; {advice}")
+    format!(in alloc; "{refusal}; {advice}")
 }

@@ -1,12 +1,14 @@
 //! Why calls of builders of events are refused.
 
 ghost use Rattle.std.specs.Prelude.{◌≡◌, Some};
-ghost use Rattle.iceoryx2_errors.specs.AnyError.{EventCreate, EventOpen, EventOpenOrCreate, text_of};
-ghost use Rattle.iceoryx2_errors.specs.Texts.{event_create_error_name, event_open_error_name};
+ghost use Rattle.iceoryx2_errors.specs.Reasons.{event_create_reason, event_open_reason, reason_name};
+ghost use Rattle.iceoryx2_errors.specs.Texts.{text_of};
+ghost use Rattle.iceoryx2_errors.specs.declared.refusal.Refusal.TheVariants as refusal;
 ghost use Rattle.iceoryx2_errors.specs.States.{event_create_error_of_state, event_open_error_of_state};
 ghost use Rattle.iceoryx2_errors.specs.declared.error.events.EventOpenOrCreateError.TheVariants as either;
 
 use super::ServiceState;
+use crate::refusal::Refusal;
 use std::error::Error;
 use std::fmt;
 
@@ -55,21 +57,14 @@ pub enum EventOpenError {
 impl EventOpenError {
     /// The variant's name.
     pub fn name(&self) -> &'static str
-        ensures { result.now ≡ event_open_error_name self.now }
+        ensures { result.now ≡ reason_name (event_open_reason self.now) }
     {
-        name_of!(self, EventOpenError:
-            DoesNotExist InsufficientPermissions ServiceInCorruptedState
-            IncompatibleMessagingPattern IncompatibleAttributes InternalFailure
-            IncompatibleDeadline IncompatibleNotifierCreatedEvent IncompatibleNotifierDroppedEvent
-            IncompatibleNotifierDeadEvent HangsInCreation DoesNotSupportRequestedAmountOfNotifiers
-            DoesNotSupportRequestedAmountOfListeners DoesNotSupportRequestedMaxEventId
-            DoesNotSupportRequestedAmountOfNodes ExceedsMaxNumberOfNodes IsMarkedForDestruction
-            OutOfMemory)
+        Refusal::EventOpen(*self).reason().name()
     }
 }
 
 impl fmt::Display for EventOpenError {
-    ghost output = { λ error. Some (text_of (EventOpen error)) };
+    ghost output = { λ error. Some (text_of (refusal.EventOpen error)) };
 
     fn fmt<W: fmt::Write>(&self, f: &mut fmt::Formatter<W>) -> fmt::Result {
         let name = self.name();
@@ -110,16 +105,14 @@ pub enum EventCreateError {
 impl EventCreateError {
     /// The variant's name.
     pub fn name(&self) -> &'static str
-        ensures { result.now ≡ event_create_error_name self.now }
+        ensures { result.now ≡ reason_name (event_create_reason self.now) }
     {
-        name_of!(self, EventCreateError:
-            ServiceInCorruptedState InternalFailure IsBeingCreatedByAnotherInstance AlreadyExists
-            HangsInCreation InsufficientPermissions OutOfMemory)
+        Refusal::EventCreate(*self).reason().name()
     }
 }
 
 impl fmt::Display for EventCreateError {
-    ghost output = { λ error. Some (text_of (EventCreate error)) };
+    ghost output = { λ error. Some (text_of (refusal.EventCreate error)) };
 
     fn fmt<W: fmt::Write>(&self, f: &mut fmt::Formatter<W>) -> fmt::Result {
         let name = self.name();
@@ -150,7 +143,7 @@ pub enum EventOpenOrCreateError {
 }
 
 impl fmt::Display for EventOpenOrCreateError {
-    ghost output = { λ error. Some (text_of (EventOpenOrCreate error)) };
+    ghost output = { λ error. Some (text_of (refusal.EventOpenOrCreate error)) };
 
     fn fmt<W: fmt::Write>(&self, f: &mut fmt::Formatter<W>) -> fmt::Result {
         match self {

@@ -1,12 +1,14 @@
 //! Why calls of builders of publish-subscribe are refused.
 
 ghost use Rattle.std.specs.Prelude.{◌≡◌, Some};
-ghost use Rattle.iceoryx2_errors.specs.AnyError.{PublishSubscribeCreate, PublishSubscribeOpen, PublishSubscribeOpenOrCreate, text_of};
-ghost use Rattle.iceoryx2_errors.specs.Texts.{publish_subscribe_create_error_name, publish_subscribe_open_error_name};
+ghost use Rattle.iceoryx2_errors.specs.Reasons.{publish_subscribe_create_reason, publish_subscribe_open_reason, reason_name};
+ghost use Rattle.iceoryx2_errors.specs.Texts.{text_of};
+ghost use Rattle.iceoryx2_errors.specs.declared.refusal.Refusal.TheVariants as refusal;
 ghost use Rattle.iceoryx2_errors.specs.States.{publish_subscribe_create_error_of_state, publish_subscribe_open_error_of_state};
 ghost use Rattle.iceoryx2_errors.specs.declared.error.publish_subscribe.PublishSubscribeOpenOrCreateError.TheVariants as either;
 
 use super::ServiceState;
+use crate::refusal::Refusal;
 use std::error::Error;
 use std::fmt;
 
@@ -65,22 +67,14 @@ pub enum PublishSubscribeOpenError {
 impl PublishSubscribeOpenError {
     /// The variant's name.
     pub fn name(&self) -> &'static str
-        ensures { result.now ≡ publish_subscribe_open_error_name self.now }
+        ensures { result.now ≡ reason_name (publish_subscribe_open_reason self.now) }
     {
-        name_of!(self, PublishSubscribeOpenError:
-            DoesNotExist InternalFailure IncompatibleTypes IncompatibleMessagingPattern
-            IncompatibleAttributes DoesNotSupportRequestedMinBufferSize
-            DoesNotSupportRequestedMinHistorySize
-            DoesNotSupportRequestedMinSubscriberBorrowedSamples
-            DoesNotSupportRequestedAmountOfPublishers DoesNotSupportRequestedAmountOfSubscribers
-            DoesNotSupportRequestedAmountOfNodes IncompatibleOverflowBehavior
-            InsufficientPermissions ServiceInCorruptedState HangsInCreation ExceedsMaxNumberOfNodes
-            IsMarkedForDestruction OutOfMemory)
+        Refusal::PublishSubscribeOpen(*self).reason().name()
     }
 }
 
 impl fmt::Display for PublishSubscribeOpenError {
-    ghost output = { λ error. Some (text_of (PublishSubscribeOpen error)) };
+    ghost output = { λ error. Some (text_of (refusal.PublishSubscribeOpen error)) };
 
     fn fmt<W: fmt::Write>(&self, f: &mut fmt::Formatter<W>) -> fmt::Result {
         let name = self.name();
@@ -131,17 +125,14 @@ pub enum PublishSubscribeCreateError {
 impl PublishSubscribeCreateError {
     /// The variant's name.
     pub fn name(&self) -> &'static str
-        ensures { result.now ≡ publish_subscribe_create_error_name self.now }
+        ensures { result.now ≡ reason_name (publish_subscribe_create_reason self.now) }
     {
-        name_of!(self, PublishSubscribeCreateError:
-            ServiceInCorruptedState SubscriberBufferMustBeLargerThanHistorySize AlreadyExists
-            InsufficientPermissions InternalFailure IsBeingCreatedByAnotherInstance HangsInCreation
-            OutOfMemory)
+        Refusal::PublishSubscribeCreate(*self).reason().name()
     }
 }
 
 impl fmt::Display for PublishSubscribeCreateError {
-    ghost output = { λ error. Some (text_of (PublishSubscribeCreate error)) };
+    ghost output = { λ error. Some (text_of (refusal.PublishSubscribeCreate error)) };
 
     fn fmt<W: fmt::Write>(&self, f: &mut fmt::Formatter<W>) -> fmt::Result {
         let name = self.name();
@@ -180,7 +171,7 @@ pub enum PublishSubscribeOpenOrCreateError {
 }
 
 impl fmt::Display for PublishSubscribeOpenOrCreateError {
-    ghost output = { λ error. Some (text_of (PublishSubscribeOpenOrCreate error)) };
+    ghost output = { λ error. Some (text_of (refusal.PublishSubscribeOpenOrCreate error)) };
 
     fn fmt<W: fmt::Write>(&self, f: &mut fmt::Formatter<W>) -> fmt::Result {
         match self {

@@ -1,12 +1,14 @@
 //! Why calls of builders of request-response are refused.
 
 ghost use Rattle.std.specs.Prelude.{◌≡◌, Some};
-ghost use Rattle.iceoryx2_errors.specs.AnyError.{RequestResponseCreate, RequestResponseOpen, RequestResponseOpenOrCreate, text_of};
-ghost use Rattle.iceoryx2_errors.specs.Texts.{request_response_create_error_name, request_response_open_error_name};
+ghost use Rattle.iceoryx2_errors.specs.Reasons.{request_response_create_reason, request_response_open_reason, reason_name};
+ghost use Rattle.iceoryx2_errors.specs.Texts.{text_of};
+ghost use Rattle.iceoryx2_errors.specs.declared.refusal.Refusal.TheVariants as refusal;
 ghost use Rattle.iceoryx2_errors.specs.States.{request_response_create_error_of_state, request_response_open_error_of_state};
 ghost use Rattle.iceoryx2_errors.specs.declared.error.request_response.RequestResponseOpenOrCreateError.TheVariants as either;
 
 use super::ServiceState;
+use crate::refusal::Refusal;
 use std::error::Error;
 use std::fmt;
 
@@ -77,24 +79,14 @@ pub enum RequestResponseOpenError {
 impl RequestResponseOpenError {
     /// The variant's name.
     pub fn name(&self) -> &'static str
-        ensures { result.now ≡ request_response_open_error_name self.now }
+        ensures { result.now ≡ reason_name (request_response_open_reason self.now) }
     {
-        name_of!(self, RequestResponseOpenError:
-            DoesNotExist DoesNotSupportRequestedAmountOfClientRequestLoans
-            DoesNotSupportRequestedAmountOfActiveRequestsPerClient
-            DoesNotSupportRequestedResponseBufferSize DoesNotSupportRequestedAmountOfServers
-            DoesNotSupportRequestedAmountOfClients DoesNotSupportRequestedAmountOfNodes
-            DoesNotSupportRequestedAmountOfBorrowedResponsesPerPendingResponse
-            ExceedsMaxNumberOfNodes HangsInCreation IncompatibleRequestType
-            IncompatibleResponseType IncompatibleAttributes IncompatibleMessagingPattern
-            IncompatibleOverflowBehaviorForRequests IncompatibleOverflowBehaviorForResponses
-            IncompatibleBehaviorForFireAndForgetRequests InsufficientPermissions InternalFailure
-            IsMarkedForDestruction ServiceInCorruptedState OutOfMemory)
+        Refusal::RequestResponseOpen(*self).reason().name()
     }
 }
 
 impl fmt::Display for RequestResponseOpenError {
-    ghost output = { λ error. Some (text_of (RequestResponseOpen error)) };
+    ghost output = { λ error. Some (text_of (refusal.RequestResponseOpen error)) };
 
     fn fmt<W: fmt::Write>(&self, f: &mut fmt::Formatter<W>) -> fmt::Result {
         let name = self.name();
@@ -145,16 +137,14 @@ pub enum RequestResponseCreateError {
 impl RequestResponseCreateError {
     /// The variant's name.
     pub fn name(&self) -> &'static str
-        ensures { result.now ≡ request_response_create_error_name self.now }
+        ensures { result.now ≡ reason_name (request_response_create_reason self.now) }
     {
-        name_of!(self, RequestResponseCreateError:
-            AlreadyExists InternalFailure IsBeingCreatedByAnotherInstance InsufficientPermissions
-            HangsInCreation ServiceInCorruptedState OutOfMemory)
+        Refusal::RequestResponseCreate(*self).reason().name()
     }
 }
 
 impl fmt::Display for RequestResponseCreateError {
-    ghost output = { λ error. Some (text_of (RequestResponseCreate error)) };
+    ghost output = { λ error. Some (text_of (refusal.RequestResponseCreate error)) };
 
     fn fmt<W: fmt::Write>(&self, f: &mut fmt::Formatter<W>) -> fmt::Result {
         let name = self.name();
@@ -195,7 +185,7 @@ pub enum RequestResponseOpenOrCreateError {
 }
 
 impl fmt::Display for RequestResponseOpenOrCreateError {
-    ghost output = { λ error. Some (text_of (RequestResponseOpenOrCreate error)) };
+    ghost output = { λ error. Some (text_of (refusal.RequestResponseOpenOrCreate error)) };
 
     fn fmt<W: fmt::Write>(&self, f: &mut fmt::Formatter<W>) -> fmt::Result {
         match self {

@@ -1,7 +1,9 @@
-use Rattle.std.proofs.Common.{string_bytes}
-use Rattle.escaped_serve.proofs.Refusals.{told_of_one}
+use Rattle.std.proofs.Common.{rules, ◌≡◌, ◌++◌, OnOk, string_bytes, None, sym, subst, ◌∙◌}
+use Rattle.iceoryx2_errors.specs.Numbers.{numbered}
+use Rattle.escaped_serve.specs.Questions.{refusal_reply}
 use Rattle.escaped_serve.proofs.questions.describe_refusal.Goals as goal
 
-pub returns-in-Some : goal.returns-in-Some
-returns-in-Some c =
-    told_of_one c.args.number c.in-Some.refusal (string_bytes c.args.text.now) (string_bytes c.describe_row.new.text) c.in-Some.ensures c.describe_row.result c.describe_row.ensures
+pub returns-in-None : goal.returns-in-None
+returns-in-None c =
+    let none : numbered c.args.number ≡ None = sym c.from_number.ensures ∙ c.in-None.is in
+    subst (λ r. OnOk c.writeln.result (string_bytes c.writeln.new.self ≡ string_bytes c.args.text.now ++ refusal_reply c.args.number r)) (sym none) (search rules)

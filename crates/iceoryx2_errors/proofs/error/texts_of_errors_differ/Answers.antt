@@ -1,5 +1,5 @@
 use Rattle.std.proofs.Common.{◌≡◌, Some, sym, ap, ◌∙◌}
-use Rattle.iceoryx2_errors.proofs.Texts.{read, is_read}
+use Rattle.iceoryx2_errors.proofs.Known.{read, is_read}
 use Rattle.iceoryx2_errors.proofs.error.texts_of_errors_differ.Goals as goal
 
 pub returns : goal.returns

@@ -1,0 +1,318 @@
+//! The refusal of a call of a builder, whichever it was, and its reason.
+
+ghost use Rattle.std.specs.Prelude.{◌≡◌, Some};
+ghost use Rattle.std.specs.List.{find};
+ghost use Rattle.iceoryx2_errors.specs.Numbers.{has_number, number_of, numbered};
+ghost use Rattle.iceoryx2_errors.specs.Reasons.{is_retried, may_be_a_dead_node, reason_name, reason_of};
+ghost use Rattle.iceoryx2_errors.specs.Texts.{text_of};
+ghost use Rattle.iceoryx2_errors.specs.declared.refusal.Refusal.{Refusal as AnyRefusal};
+
+use crate::error::{
+    EventCreateError, EventOpenError, EventOpenOrCreateError, PublishSubscribeCreateError,
+    PublishSubscribeOpenError, PublishSubscribeOpenOrCreateError, RequestResponseCreateError,
+    RequestResponseOpenError, RequestResponseOpenOrCreateError,
+};
+use std::error::Error;
+use std::fmt;
+
+/// The variant's own name.
+macro_rules! name_of {
+    ($reason:expr; $($variant:ident)*) => {
+        match $reason {
+            $(Reason::$variant => stringify!($variant),)*
+        }
+    };
+}
+
+/// Why a call is refused: one for each name that the errors' variants have. What it means of an open or a create stands
+/// at the variants of this name.
+#[derive(Debug, Clone, Copy, PartialEq, Eq, Hash)]
+pub enum Reason {
+    DoesNotExist,
+    InsufficientPermissions,
+    ServiceInCorruptedState,
+    IncompatibleMessagingPattern,
+    IncompatibleAttributes,
+    InternalFailure,
+    IncompatibleDeadline,
+    IncompatibleNotifierCreatedEvent,
+    IncompatibleNotifierDroppedEvent,
+    IncompatibleNotifierDeadEvent,
+    HangsInCreation,
+    DoesNotSupportRequestedAmountOfNotifiers,
+    DoesNotSupportRequestedAmountOfListeners,
+    DoesNotSupportRequestedMaxEventId,
+    DoesNotSupportRequestedAmountOfNodes,
+    ExceedsMaxNumberOfNodes,
+    IsMarkedForDestruction,
+    OutOfMemory,
+    IsBeingCreatedByAnotherInstance,
+    AlreadyExists,
+    SystemInFlux,
+    IncompatibleTypes,
+    DoesNotSupportRequestedMinBufferSize,
+    DoesNotSupportRequestedMinHistorySize,
+    DoesNotSupportRequestedMinSubscriberBorrowedSamples,
+    DoesNotSupportRequestedAmountOfPublishers,
+    DoesNotSupportRequestedAmountOfSubscribers,
+    IncompatibleOverflowBehavior,
+    SubscriberBufferMustBeLargerThanHistorySize,
+    DoesNotSupportRequestedAmountOfClientRequestLoans,
+    DoesNotSupportRequestedAmountOfActiveRequestsPerClient,
+    DoesNotSupportRequestedResponseBufferSize,
+    DoesNotSupportRequestedAmountOfServers,
+    DoesNotSupportRequestedAmountOfClients,
+    DoesNotSupportRequestedAmountOfBorrowedResponsesPerPendingResponse,
+    IncompatibleRequestType,
+    IncompatibleResponseType,
+    IncompatibleOverflowBehaviorForRequests,
+    IncompatibleOverflowBehaviorForResponses,
+    IncompatibleBehaviorForFireAndForgetRequests,
+}
+
+impl Reason {
+    /// The variant's name, which the variants of errors that are refused for it have too.
+    pub fn name(self) -> &'static str
+        ensures { result.now ≡ reason_name self }
+    {
+        name_of!(self;
+            DoesNotExist InsufficientPermissions ServiceInCorruptedState
+            IncompatibleMessagingPattern IncompatibleAttributes InternalFailure
+            IncompatibleDeadline IncompatibleNotifierCreatedEvent IncompatibleNotifierDroppedEvent
+            IncompatibleNotifierDeadEvent HangsInCreation DoesNotSupportRequestedAmountOfNotifiers
+            DoesNotSupportRequestedAmountOfListeners DoesNotSupportRequestedMaxEventId
+            DoesNotSupportRequestedAmountOfNodes ExceedsMaxNumberOfNodes IsMarkedForDestruction
+            OutOfMemory IsBeingCreatedByAnotherInstance AlreadyExists SystemInFlux
+            IncompatibleTypes DoesNotSupportRequestedMinBufferSize
+            DoesNotSupportRequestedMinHistorySize
+            DoesNotSupportRequestedMinSubscriberBorrowedSamples
+            DoesNotSupportRequestedAmountOfPublishers DoesNotSupportRequestedAmountOfSubscribers
+            IncompatibleOverflowBehavior SubscriberBufferMustBeLargerThanHistorySize
+            DoesNotSupportRequestedAmountOfClientRequestLoans
+            DoesNotSupportRequestedAmountOfActiveRequestsPerClient
+            DoesNotSupportRequestedResponseBufferSize DoesNotSupportRequestedAmountOfServers
+            DoesNotSupportRequestedAmountOfClients
+            DoesNotSupportRequestedAmountOfBorrowedResponsesPerPendingResponse
+            IncompatibleRequestType IncompatibleResponseType
+            IncompatibleOverflowBehaviorForRequests IncompatibleOverflowBehaviorForResponses
+            IncompatibleBehaviorForFireAndForgetRequests)
+    }
+
+    /// Whether a dead node may be why: it was creating the service, was the last one to leave it, takes a place in it,
+    /// or has removed its segment and not yet its description.
+    pub fn may_be_a_dead_node(self) -> bool
+        ensures { result ≡ may_be_a_dead_node self }
+    {
+        match self {
+            Reason::ServiceInCorruptedState => true,
+            Reason::HangsInCreation => true,
+            Reason::IsBeingCreatedByAnotherInstance => true,
+            Reason::ExceedsMaxNumberOfNodes => true,
+            Reason::IsMarkedForDestruction => true,
+            Reason::SystemInFlux => true,
+            _ => false,
+        }
+    }
+
+    /// Whether an open or create goes on to the next round, if its open or its create is refused for it.
+    pub fn is_retried(self) -> bool
+        ensures { result ≡ is_retried self }
+    {
+        match self {
+            Reason::DoesNotExist => true,
+            Reason::ServiceInCorruptedState => true,
+            Reason::IsMarkedForDestruction => true,
+            Reason::AlreadyExists => true,
+            Reason::IsBeingCreatedByAnotherInstance => true,
+            _ => false,
+        }
+    }
+}
+
+/// Why a call of a builder is refused: the error of its call.
+#[derive(Debug, Clone, Copy, PartialEq, Eq)]
+pub enum Refusal {
+    EventOpen(EventOpenError),
+    EventCreate(EventCreateError),
+    EventOpenOrCreate(EventOpenOrCreateError),
+    PublishSubscribeOpen(PublishSubscribeOpenError),
+    PublishSubscribeCreate(PublishSubscribeCreateError),
+    PublishSubscribeOpenOrCreate(PublishSubscribeOpenOrCreateError),
+    RequestResponseOpen(RequestResponseOpenError),
+    RequestResponseCreate(RequestResponseCreateError),
+    RequestResponseOpenOrCreate(RequestResponseOpenOrCreateError),
+}
+
+/// The errors of each pattern, those of its opens and those of its creates, in the order of their enums: an error's
+/// place there, from 1, is its number.
+macro_rules! each_error {
+    ($make:ident $given:expr) => {
+        $make! {
+            $given;
+            EventOpenOrCreate EventOpenOrCreateError
+                EventOpen EventOpenError {
+                    DoesNotExist InsufficientPermissions ServiceInCorruptedState IncompatibleMessagingPattern
+                    IncompatibleAttributes InternalFailure IncompatibleDeadline IncompatibleNotifierCreatedEvent
+                    IncompatibleNotifierDroppedEvent IncompatibleNotifierDeadEvent HangsInCreation
+                    DoesNotSupportRequestedAmountOfNotifiers DoesNotSupportRequestedAmountOfListeners
+                    DoesNotSupportRequestedMaxEventId DoesNotSupportRequestedAmountOfNodes ExceedsMaxNumberOfNodes
+                    IsMarkedForDestruction OutOfMemory
+                }
+                EventCreate EventCreateError {
+                    ServiceInCorruptedState InternalFailure IsBeingCreatedByAnotherInstance AlreadyExists
+                    HangsInCreation InsufficientPermissions OutOfMemory
+                }
+            PublishSubscribeOpenOrCreate PublishSubscribeOpenOrCreateError
+                PublishSubscribeOpen PublishSubscribeOpenError {
+                    DoesNotExist InternalFailure IncompatibleTypes IncompatibleMessagingPattern
+                    IncompatibleAttributes DoesNotSupportRequestedMinBufferSize
+                    DoesNotSupportRequestedMinHistorySize DoesNotSupportRequestedMinSubscriberBorrowedSamples
+                    DoesNotSupportRequestedAmountOfPublishers DoesNotSupportRequestedAmountOfSubscribers
+                    DoesNotSupportRequestedAmountOfNodes IncompatibleOverflowBehavior InsufficientPermissions
+                    ServiceInCorruptedState HangsInCreation ExceedsMaxNumberOfNodes IsMarkedForDestruction
+                    OutOfMemory
+                }
+                PublishSubscribeCreate PublishSubscribeCreateError {
+                    ServiceInCorruptedState SubscriberBufferMustBeLargerThanHistorySize AlreadyExists
+                    InsufficientPermissions InternalFailure IsBeingCreatedByAnotherInstance HangsInCreation
+                    OutOfMemory
+                }
+            RequestResponseOpenOrCreate RequestResponseOpenOrCreateError
+                RequestResponseOpen RequestResponseOpenError {
+                    DoesNotExist DoesNotSupportRequestedAmountOfClientRequestLoans
+                    DoesNotSupportRequestedAmountOfActiveRequestsPerClient DoesNotSupportRequestedResponseBufferSize
+                    DoesNotSupportRequestedAmountOfServers DoesNotSupportRequestedAmountOfClients
+                    DoesNotSupportRequestedAmountOfNodes
+                    DoesNotSupportRequestedAmountOfBorrowedResponsesPerPendingResponse ExceedsMaxNumberOfNodes
+                    HangsInCreation IncompatibleRequestType IncompatibleResponseType IncompatibleAttributes
+                    IncompatibleMessagingPattern IncompatibleOverflowBehaviorForRequests
+                    IncompatibleOverflowBehaviorForResponses IncompatibleBehaviorForFireAndForgetRequests
+                    InsufficientPermissions InternalFailure IsMarkedForDestruction ServiceInCorruptedState
+                    OutOfMemory
+                }
+                RequestResponseCreate RequestResponseCreateError {
+                    AlreadyExists InternalFailure IsBeingCreatedByAnotherInstance InsufficientPermissions
+                    HangsInCreation ServiceInCorruptedState OutOfMemory
+                }
+        }
+    };
+}
+
+macro_rules! all {
+    ($given:expr; $($either:ident $eithers:ident
+        $open:ident $opens:ident { $($opening:ident)* }
+        $create:ident $creates:ident { $($creating:ident)* })*) => {
+        [$(
+            $(Refusal::$open($opens::$opening),)*
+            $(Refusal::$create($creates::$creating),)*
+            $(Refusal::$either($eithers::$opens($opens::$opening)),)*
+            $(Refusal::$either($eithers::$creates($creates::$creating)),)*
+            Refusal::$either($eithers::SystemInFlux),
+        )*]
+    };
+}
+
+macro_rules! reason {
+    ($given:expr; $($either:ident $eithers:ident
+        $open:ident $opens:ident { $($opening:ident)* }
+        $create:ident $creates:ident { $($creating:ident)* })*) => {
+        match $given {$(
+            $(Refusal::$open($opens::$opening) => Reason::$opening,)*
+            $(Refusal::$create($creates::$creating) => Reason::$creating,)*
+            $(Refusal::$either($eithers::$opens($opens::$opening)) => Reason::$opening,)*
+            $(Refusal::$either($eithers::$creates($creates::$creating)) => Reason::$creating,)*
+            Refusal::$either($eithers::SystemInFlux) => Reason::SystemInFlux,
+        )*}
+    };
+}
+
+/// Each refusal once.
+const ALL: [Refusal; 163] = each_error!(all());
+
+impl Refusal {
+    /// Why, in a word that means the same whatever the call.
+    pub fn reason(self) -> Reason
+        ensures { result ≡ reason_of self }
+    {
+        each_error!(reason self)
+    }
+
+    /// Its number: a thousand for the call's enum, and the place in that of the error, from 1. Of an open or create an
+    /// error of its create has 500 more. It stays what it is in each version.
+    pub fn number(self) -> u64
+        ensures { result ≡ number_of self }
+    {
+        match self {
+            Refusal::EventOpen(error) => 1001 + error as u64,
+            Refusal::EventCreate(error) => 2001 + error as u64,
+            Refusal::EventOpenOrCreate(EventOpenOrCreateError::EventOpenError(error)) => 3001
+                + error as u64,
+            Refusal::EventOpenOrCreate(EventOpenOrCreateError::EventCreateError(error)) => 3501
+                + error as u64,
+            Refusal::EventOpenOrCreate(EventOpenOrCreateError::SystemInFlux) => 3999,
+            Refusal::PublishSubscribeOpen(error) => 4001 + error as u64,
+            Refusal::PublishSubscribeCreate(error) => 5001 + error as u64,
+            Refusal::PublishSubscribeOpenOrCreate(
+                PublishSubscribeOpenOrCreateError::PublishSubscribeOpenError(error),
+            ) => 6001 + error as u64,
+            Refusal::PublishSubscribeOpenOrCreate(
+                PublishSubscribeOpenOrCreateError::PublishSubscribeCreateError(error),
+            ) => 6501 + error as u64,
+            Refusal::PublishSubscribeOpenOrCreate(
+                PublishSubscribeOpenOrCreateError::SystemInFlux,
+            ) => 6999,
+            Refusal::RequestResponseOpen(error) => 7001 + error as u64,
+            Refusal::RequestResponseCreate(error) => 8001 + error as u64,
+            Refusal::RequestResponseOpenOrCreate(
+                RequestResponseOpenOrCreateError::RequestResponseOpenError(error),
+            ) => 9001 + error as u64,
+            Refusal::RequestResponseOpenOrCreate(
+                RequestResponseOpenOrCreateError::RequestResponseCreateError(error),
+            ) => 9501 + error as u64,
+            Refusal::RequestResponseOpenOrCreate(RequestResponseOpenOrCreateError::SystemInFlux) =>
+                9999,
+        }
+    }
+
+    /// The refusal of this number, where it is one of a refusal.
+    pub fn from_number(number: u64) -> Option<Refusal>
+        ensures { result ≡ numbered number }
+    {
+        first_numbered(&ALL, number)
+    }
+}
+
+fn first_numbered(refusals: &[Refusal], number: u64) -> Option<Refusal>
+    ensures { result ≡ find (has_number number) refusals.now }
+{
+    refusals
+        .iter()
+        .copied()
+        .find(|refusal| refusal.number() == number)
+}
+
+/// A refusal is known by its number: no two have the same one.
+pub fn refusals_are_known()
+    ensures { (refusal : AnyRefusal) → numbered (number_of refusal) ≡ Some refusal }
+{}
+
+/// The text of its error.
+impl fmt::Display for Refusal {
+    ghost output = { λ refusal. Some (text_of refusal) };
+
+    fn fmt<W: fmt::Write>(&self, f: &mut fmt::Formatter<W>) -> fmt::Result {
+        match self {
+            Refusal::EventOpen(error) => write!(f, "{error}"),
+            Refusal::EventCreate(error) => write!(f, "{error}"),
+            Refusal::EventOpenOrCreate(error) => write!(f, "{error}"),
+            Refusal::PublishSubscribeOpen(error) => write!(f, "{error}"),
+            Refusal::PublishSubscribeCreate(error) => write!(f, "{error}"),
+            Refusal::PublishSubscribeOpenOrCreate(error) => write!(f, "{error}"),
+            Refusal::RequestResponseOpen(error) => write!(f, "{error}"),
+            Refusal::RequestResponseCreate(error) => write!(f, "{error}"),
+            Refusal::RequestResponseOpenOrCreate(error) => write!(f, "{error}"),
+        }
+    }
+}
+
+impl Error for Refusal {}
