@@ -28,33 +28,11 @@ kept_by_all field with_setting kept b (x ∷ xs) = kept_by_all field with_settin
 
 pubsub_node : (b : publish_subscribe.PublishSubscribeBuilderState) (x : PublishSubscribeSetter) → (publish_subscribe.with_setting b x).node ≡ b.node
 pubsub_node b (pubsub.MaxPublishers n) = refl
-pubsub_node b (pubsub.MaxSubscribers n) = refl
-pubsub_node b (pubsub.SubscriberMaxBufferSize n) = refl
-pubsub_node b (pubsub.HistorySize n) = refl
-pubsub_node b (pubsub.SubscriberMaxBorrowedSamples n) = refl
-pubsub_node b (pubsub.EnableSafeOverflow o) = refl
-pubsub_node b (pubsub.MaxNodes n) = refl
-pubsub_node b (pubsub.PayloadAlignment n) = refl
-pubsub_node b (pubsub.PayloadType detail) = refl
-pubsub_node b (pubsub.UserHeaderType detail) = refl
+pubsub_node b _ = refl
 
 rr_node : (b : request_response.RequestResponseBuilderState) (x : RequestResponseSetter) → (request_response.with_setting b x).node ≡ b.node
 rr_node b (rr.EnableSafeOverflowForRequests o) = refl
-rr_node b (rr.EnableSafeOverflowForResponses o) = refl
-rr_node b (rr.EnableFireAndForgetRequests o) = refl
-rr_node b (rr.MaxActiveRequestsPerClient n) = refl
-rr_node b (rr.MaxLoanedRequests n) = refl
-rr_node b (rr.MaxBorrowedResponsesPerPendingResponse n) = refl
-rr_node b (rr.MaxResponseBufferSize n) = refl
-rr_node b (rr.MaxServers n) = refl
-rr_node b (rr.MaxClients n) = refl
-rr_node b (rr.MaxNodes n) = refl
-rr_node b (rr.RequestPayloadAlignment n) = refl
-rr_node b (rr.ResponsePayloadAlignment n) = refl
-rr_node b (rr.RequestPayloadType detail) = refl
-rr_node b (rr.RequestHeaderType detail) = refl
-rr_node b (rr.ResponsePayloadType detail) = refl
-rr_node b (rr.ResponseHeaderType detail) = refl
+rr_node b _ = refl
 
 caller_by : (config : Config) (node : ℕ) (name : List ℕ) (way : Way) (attributes : Requirements) (now : Result Span ClockFault) (xs : Settings)
     → (call_by config node name way attributes now xs).call.caller.node ≡ node
