@@ -1,23 +1,49 @@
 -- What is printed of a refusal.
 use Rattle.std.specs.Prelude.{ℕ, List, ◌++◌, codes}
+use Rattle.iceoryx2_errors.specs.declared.error.events.EventOpenOrCreateError.TheVariants as event_either
+use Rattle.iceoryx2_errors.specs.declared.error.publish_subscribe.PublishSubscribeOpenOrCreateError.TheVariants as subscribe_either
+use Rattle.iceoryx2_errors.specs.declared.error.request_response.RequestResponseOpenOrCreateError.TheVariants as request_either
 use Rattle.iceoryx2_errors.specs.declared.refusal.Refusal.{Refusal}
 use Rattle.iceoryx2_errors.specs.declared.refusal.Refusal.TheVariants as refusal
-use Rattle.negotiate_explain.specs.Rows.{Texts, event_open_row, event_create_row, event_open_or_create_row}
-use Rattle.negotiate_explain.specs.Rows.{publish_subscribe_open_row, publish_subscribe_create_row}
-use Rattle.negotiate_explain.specs.Rows.{publish_subscribe_open_or_create_row, request_response_open_row}
-use Rattle.negotiate_explain.specs.Rows.{request_response_create_row, request_response_open_or_create_row}
+use Rattle.iceoryx2_errors.specs.Reasons.{reason_of}
+use Rattle.negotiate_explain.specs.declared.refusals.Part.{Part}
+use Rattle.negotiate_explain.specs.declared.refusals.Part.TheVariants as part
+use Rattle.negotiate_explain.specs.declared.refusals.Pattern.{Pattern}
+use Rattle.negotiate_explain.specs.declared.refusals.Pattern.TheVariants as pattern
+use Rattle.negotiate_explain.specs.Rows.{Texts, row_of}
 
--- its row: that of its error
+-- the part of a call that refuses: of an open or create that of a round
+abbrev pub part_of : Refusal → Part
+part_of (refusal.EventOpen error) = part.Open
+part_of (refusal.PublishSubscribeOpen error) = part.Open
+part_of (refusal.RequestResponseOpen error) = part.Open
+part_of (refusal.EventCreate error) = part.Create
+part_of (refusal.PublishSubscribeCreate error) = part.Create
+part_of (refusal.RequestResponseCreate error) = part.Create
+part_of (refusal.EventOpenOrCreate (event_either.EventOpenError error)) = part.RoundOpen
+part_of (refusal.EventOpenOrCreate (event_either.EventCreateError error)) = part.RoundCreate
+part_of (refusal.EventOpenOrCreate event_either.SystemInFlux) = part.Rounds
+part_of (refusal.PublishSubscribeOpenOrCreate (subscribe_either.PublishSubscribeOpenError error)) = part.RoundOpen
+part_of (refusal.PublishSubscribeOpenOrCreate (subscribe_either.PublishSubscribeCreateError error)) = part.RoundCreate
+part_of (refusal.PublishSubscribeOpenOrCreate subscribe_either.SystemInFlux) = part.Rounds
+part_of (refusal.RequestResponseOpenOrCreate (request_either.RequestResponseOpenError error)) = part.RoundOpen
+part_of (refusal.RequestResponseOpenOrCreate (request_either.RequestResponseCreateError error)) = part.RoundCreate
+part_of (refusal.RequestResponseOpenOrCreate request_either.SystemInFlux) = part.Rounds
+
+abbrev pub pattern_of : Refusal → Pattern
+pattern_of (refusal.EventOpen error) = pattern.Event
+pattern_of (refusal.EventCreate error) = pattern.Event
+pattern_of (refusal.EventOpenOrCreate error) = pattern.Event
+pattern_of (refusal.PublishSubscribeOpen error) = pattern.PublishSubscribe
+pattern_of (refusal.PublishSubscribeCreate error) = pattern.PublishSubscribe
+pattern_of (refusal.PublishSubscribeOpenOrCreate error) = pattern.PublishSubscribe
+pattern_of (refusal.RequestResponseOpen error) = pattern.RequestResponse
+pattern_of (refusal.RequestResponseCreate error) = pattern.RequestResponse
+pattern_of (refusal.RequestResponseOpenOrCreate error) = pattern.RequestResponse
+
+-- its row: that of its reason there
 abbrev pub refusal_row : Refusal → Texts
-refusal_row (refusal.EventOpen e) = event_open_row e
-refusal_row (refusal.EventCreate e) = event_create_row e
-refusal_row (refusal.EventOpenOrCreate e) = event_open_or_create_row e
-refusal_row (refusal.PublishSubscribeOpen e) = publish_subscribe_open_row e
-refusal_row (refusal.PublishSubscribeCreate e) = publish_subscribe_create_row e
-refusal_row (refusal.PublishSubscribeOpenOrCreate e) = publish_subscribe_open_or_create_row e
-refusal_row (refusal.RequestResponseOpen e) = request_response_open_row e
-refusal_row (refusal.RequestResponseCreate e) = request_response_create_row e
-refusal_row (refusal.RequestResponseOpenOrCreate e) = request_response_open_or_create_row e
+refusal_row r = row_of (reason_of r) (part_of r) (pattern_of r)
 
 -- A line for each text of a row.
 abbrev pub row_lines : Texts → List ℕ

@@ -3,7 +3,7 @@
 //!
 //! Each function writes to a text that grows by exactly its lines; where memory runs out it may have a part of
 //! them. `describe_accesses`: a line for each of the latest accesses, and before them how many aren't kept
-//! (`trace_lines`). `refusals::RefusalRow::of`, `describe_row`: each of the 163 errors has the row that its table names
+//! (`trace_lines`). `refusals::RefusalRow::of`, `describe_row`: each refusal has the row of its reason
 //! (`refusal_row`); `tools/check-docs` compares the texts with docs/REFUSALS.md.
 //!
 //! `settings::describe_offer`: for an error that names a setting, each setter of that name that no later one sets
