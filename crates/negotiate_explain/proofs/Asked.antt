@@ -1,6 +1,5 @@
 -- The types that a builder asks for after setters don't hang on what else it asks.
 use Rattle.std.proofs.Common.{◌≡◌, ℕ, List, [], ◌∷◌, Some, length, refl, sym, ap, ◌∙◌, arith}
-use Rattle.iceoryx2_types.specs.Types.{Detail}
 use Rattle.iceoryx2_builder_common.specs.Requested.{no_types}
 use Rattle.iceoryx2_builder_common.specs.declared.requested.RequestedTypes.{RequestedTypes}
 use Rattle.iceoryx2_publish_subscribe_builder.specs.Builder.{PublishSubscribeBuilderState}
@@ -23,16 +22,10 @@ use Rattle.negotiate_explain.specs.Messages.{asked_message, asked_messages, samp
 -- ---- publish-subscribe
 
 sample_alike : (b d : PublishSubscribeBuilderState) (x : PublishSubscribeSetter) → b.types ≡ d.types → (publish_subscribe.with_setting b x).types ≡ (publish_subscribe.with_setting d x).types
-sample_alike b d (sample_set.MaxPublishers n) e = e
-sample_alike b d (sample_set.MaxSubscribers n) e = e
-sample_alike b d (sample_set.SubscriberMaxBufferSize n) e = e
-sample_alike b d (sample_set.HistorySize n) e = e
-sample_alike b d (sample_set.SubscriberMaxBorrowedSamples n) e = e
-sample_alike b d (sample_set.EnableSafeOverflow n) e = e
-sample_alike b d (sample_set.MaxNodes n) e = e
 sample_alike b d (sample_set.PayloadAlignment n) e = ap (λ (t : RequestedTypes). record t { alignment = Some n }) e
 sample_alike b d (sample_set.PayloadType detail) e = ap (λ (t : RequestedTypes). record t { payload = Some detail }) e
 sample_alike b d (sample_set.UserHeaderType detail) e = ap (λ (t : RequestedTypes). record t { user_header = Some detail }) e
+sample_alike b d _ e = e
 
 samples_alike : (b d : PublishSubscribeBuilderState) (xs : List PublishSubscribeSetter) → b.types ≡ d.types
     → (with_settings publish_subscribe.with_setting b xs).types ≡ (with_settings publish_subscribe.with_setting d xs).types
@@ -63,22 +56,13 @@ last_sample t (x ∷ xs) is = absurd (omega (arith, is))
 -- ---- request-response
 
 request_alike : (b d : RequestResponseBuilderState) (x : RequestResponseSetter) → b.types ≡ d.types → (request_response.with_setting b x).types ≡ (request_response.with_setting d x).types
-request_alike b d (request_set.EnableSafeOverflowForRequests n) e = e
-request_alike b d (request_set.EnableSafeOverflowForResponses n) e = e
-request_alike b d (request_set.EnableFireAndForgetRequests n) e = e
-request_alike b d (request_set.MaxActiveRequestsPerClient n) e = e
-request_alike b d (request_set.MaxLoanedRequests n) e = e
-request_alike b d (request_set.MaxBorrowedResponsesPerPendingResponse n) e = e
-request_alike b d (request_set.MaxResponseBufferSize n) e = e
-request_alike b d (request_set.MaxServers n) e = e
-request_alike b d (request_set.MaxClients n) e = e
-request_alike b d (request_set.MaxNodes n) e = e
 request_alike b d (request_set.RequestPayloadAlignment n) e = ap (λ (t : RequestedMessages). record t { request = record t.request { alignment = Some n } }) e
 request_alike b d (request_set.ResponsePayloadAlignment n) e = ap (λ (t : RequestedMessages). record t { response = record t.response { alignment = Some n } }) e
 request_alike b d (request_set.RequestPayloadType detail) e = ap (λ (t : RequestedMessages). record t { request = record t.request { payload = Some detail } }) e
 request_alike b d (request_set.RequestHeaderType detail) e = ap (λ (t : RequestedMessages). record t { request = record t.request { user_header = Some detail } }) e
 request_alike b d (request_set.ResponsePayloadType detail) e = ap (λ (t : RequestedMessages). record t { response = record t.response { payload = Some detail } }) e
 request_alike b d (request_set.ResponseHeaderType detail) e = ap (λ (t : RequestedMessages). record t { response = record t.response { user_header = Some detail } }) e
+request_alike b d _ e = e
 
 requests_alike : (b d : RequestResponseBuilderState) (xs : List RequestResponseSetter) → b.types ≡ d.types
     → (with_settings request_response.with_setting b xs).types ≡ (with_settings request_response.with_setting d xs).types

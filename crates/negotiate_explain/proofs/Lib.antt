@@ -2,4 +2,3 @@ pub mod Asked
 pub mod Found
 pub mod Lines
 pub mod Parts
-pub mod ShownSettings

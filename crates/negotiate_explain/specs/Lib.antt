@@ -8,4 +8,3 @@ pub mod Refusals
 pub mod Rows
 pub mod Settings
 pub mod Standing
-pub mod Values

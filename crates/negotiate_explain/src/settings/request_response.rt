@@ -1,22 +1,17 @@
 //! What opens of request-response require, beside what is there.
 
 ghost use Rattle.std.specs.Prelude.{◌≡◌, ◌++◌, IfOk, OnOk, string_bytes};
-ghost use Rattle.iceoryx2_description.specs.declared.description.MessagingPattern.TheVariants as pattern;
 ghost use Rattle.iceoryx2_request_response_builder.specs.Builder.{no_message_types, with_setting};
 ghost use Rattle.negotiate_explain.specs.Messages.{asked_messages, request_builder, request_builder_after};
 ghost use Rattle.negotiate_explain.specs.Offers.{is_by_types, messages_lines};
-ghost use Rattle.negotiate_explain.specs.Offers.{request_response_offer_lines, request_response_open_error};
 ghost use Rattle.negotiate_explain.specs.Offers.{request_response_required};
 
-use super::attributes::describe_lacking;
 use super::messages::describe_message;
+use super::value::Value;
 use super::{Compare, Comparison, describe_required};
-use iceoryx2_attribute::attribute::AttributeVerifier;
 use iceoryx2_builder_common::requested::RequestedTypes;
-use iceoryx2_commands::command::Refusal;
-use iceoryx2_description::description::{self, MessagingPattern};
 use iceoryx2_description::request_response::StaticConfig;
-use iceoryx2_errors::error::{RequestResponseOpenError, RequestResponseOpenOrCreateError};
+use iceoryx2_errors::refusal::Reason;
 use iceoryx2_request_response_builder::request_response::RequestResponseSetter;
 use iceoryx2_request_response_builder::request_response::requested::RequestedMessages;
 use iceoryx2_types::types::request_response::{RequestHeader, ResponseHeader};
@@ -26,25 +21,23 @@ use std::alloc::AllocError;
 impl Compare for RequestResponseSetter {
     ghost use Rattle.negotiate_explain.specs.Comparisons.{request_response_compared};
 
-    type OpenError = RequestResponseOpenError;
-
     type Existing = StaticConfig;
 
     ghost compared = { request_response_compared };
 
-    fn compare(&self, existing: &StaticConfig) -> Option<Comparison<RequestResponseOpenError>> {
-        comparison_of!(self, existing, RequestResponseSetter, RequestResponseOpenError;
+    fn compare(&self, existing: &StaticConfig) -> Option<Comparison> {
+        comparison_of!(self, existing, RequestResponseSetter;
         settings {
-            truths EnableSafeOverflowForRequests enable_safe_overflow_for_requests IncompatibleOverflowBehaviorForRequests;
-            truths EnableSafeOverflowForResponses enable_safe_overflow_for_responses IncompatibleOverflowBehaviorForResponses;
-            truths EnableFireAndForgetRequests enable_fire_and_forget_requests IncompatibleBehaviorForFireAndForgetRequests;
-            numbers MaxActiveRequestsPerClient max_active_requests_per_client DoesNotSupportRequestedAmountOfActiveRequestsPerClient;
-            numbers MaxLoanedRequests max_loaned_requests DoesNotSupportRequestedAmountOfClientRequestLoans;
-            numbers MaxBorrowedResponsesPerPendingResponse max_borrowed_responses_per_pending_response DoesNotSupportRequestedAmountOfBorrowedResponsesPerPendingResponse;
-            numbers MaxResponseBufferSize max_response_buffer_size DoesNotSupportRequestedResponseBufferSize;
-            numbers MaxServers max_servers DoesNotSupportRequestedAmountOfServers;
-            numbers MaxClients max_clients DoesNotSupportRequestedAmountOfClients;
-            numbers MaxNodes max_nodes DoesNotSupportRequestedAmountOfNodes;
+            Truth EnableSafeOverflowForRequests enable_safe_overflow_for_requests IncompatibleOverflowBehaviorForRequests;
+            Truth EnableSafeOverflowForResponses enable_safe_overflow_for_responses IncompatibleOverflowBehaviorForResponses;
+            Truth EnableFireAndForgetRequests enable_fire_and_forget_requests IncompatibleBehaviorForFireAndForgetRequests;
+            Number MaxActiveRequestsPerClient max_active_requests_per_client DoesNotSupportRequestedAmountOfActiveRequestsPerClient;
+            Number MaxLoanedRequests max_loaned_requests DoesNotSupportRequestedAmountOfClientRequestLoans;
+            Number MaxBorrowedResponsesPerPendingResponse max_borrowed_responses_per_pending_response DoesNotSupportRequestedAmountOfBorrowedResponsesPerPendingResponse;
+            Number MaxResponseBufferSize max_response_buffer_size DoesNotSupportRequestedResponseBufferSize;
+            Number MaxServers max_servers DoesNotSupportRequestedAmountOfServers;
+            Number MaxClients max_clients DoesNotSupportRequestedAmountOfClients;
+            Number MaxNodes max_nodes DoesNotSupportRequestedAmountOfNodes;
         }
         types {
             RequestPayloadType RequestHeaderType RequestPayloadAlignment
@@ -53,64 +46,27 @@ impl Compare for RequestResponseSetter {
     }
 }
 
-/// The error of an open for which a call of a builder of request-response was refused, where that is why.
-pub(super) fn open_error(refusal: Refusal) -> Option<RequestResponseOpenError>
-    ensures { result ≡ request_response_open_error refusal }
-{
-    match refusal {
-        Refusal::RequestResponseOpen(error) => Some(error),
-        Refusal::RequestResponseOpenOrCreate(error) => match error {
-            RequestResponseOpenOrCreateError::RequestResponseOpenError(error) => Some(error),
-            _ => None,
-        },
-        _ => None,
-    }
-}
-
-/// Writes what an open required that was refused by this error, and what the service offers.
-pub(super) fn describe_offer(
-    error: RequestResponseOpenError,
-    setters: &[RequestResponseSetter],
-    required: &AttributeVerifier,
-    existing: &description::StaticConfig,
-    text: &mut String,
-) -> Result<(), AllocError>
-    ensures { OnOk result (string_bytes text.new ≡ string_bytes text.old
-        ++ request_response_offer_lines error setters.now required.now existing.now) }
-{
-    if error == RequestResponseOpenError::IncompatibleAttributes {
-        return describe_lacking(required, existing.attributes(), text);
-    }
-    match existing.messaging_pattern() {
-        MessagingPattern::RequestResponse(there) => describe_required_of(
-            error, setters, there, text,
-        ),
-        MessagingPattern::Event(_) | MessagingPattern::PublishSubscribe(_) => Ok(()),
-    }
-}
-
 /// Writes what it required of types or of settings, and what is there.
-fn describe_required_of(
-    error: RequestResponseOpenError,
+pub(super) fn describe_required_of(
+    reason: Reason,
     setters: &[RequestResponseSetter],
     there: &StaticConfig,
     text: &mut String,
 ) -> Result<(), AllocError>
     ensures { OnOk result (string_bytes text.new ≡ string_bytes text.old
-        ++ request_response_required error setters.now (pattern.RequestResponse there.now)) }
+        ++ request_response_required reason setters.now there.now) }
 {
-    if !is_by_types(error) {
-        return describe_required(error, setters, there, text);
+    if !is_by_types(reason) {
+        return describe_required(reason, setters, there, text);
     }
     describe_types(setters, there, text)
 }
 
-/// Whether the refusal is by the types of requests or of responses.
-fn is_by_types(error: RequestResponseOpenError) -> bool
-    ensures { result ≡ is_by_types error }
+/// Whether the reason is the types of requests or of responses.
+fn is_by_types(reason: Reason) -> bool
+    ensures { result ≡ is_by_types reason }
 {
-    error == RequestResponseOpenError::IncompatibleRequestType
-        || error == RequestResponseOpenError::IncompatibleResponseType
+    reason == Reason::IncompatibleRequestType || reason == Reason::IncompatibleResponseType
 }
 
 /// Writes of each part of requests and responses what it required and what is there.

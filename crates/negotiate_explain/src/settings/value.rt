@@ -1,8 +1,7 @@
 //! The text of a setting's value.
 
 ghost use Rattle.std.specs.Prelude.{Some};
-ghost use Rattle.negotiate_explain.specs.Settings.{amount_text};
-ghost use Rattle.negotiate_explain.specs.Values.{amount_of};
+ghost use Rattle.negotiate_explain.specs.Settings.{value_text};
 
 use iceoryx2_description::event::EventId;
 use iceoryx2_description::time::Duration;
@@ -21,7 +20,7 @@ pub(crate) enum Value {
 
 /// The value of a line's term that means it.
 impl fmt::Display for Value {
-    ghost output = { λ value. Some (amount_text (amount_of value)) };
+    ghost output = { λ value. Some (value_text value) };
 
     fn fmt<W: fmt::Write>(&self, f: &mut fmt::Formatter<W>) -> fmt::Result {
         match self {

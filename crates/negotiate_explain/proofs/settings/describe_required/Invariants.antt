@@ -4,8 +4,8 @@ use Rattle.negotiate_explain.proofs.settings.describe_required.Given as goal
 
 abbrev pub invariant-loop-setter : goal.invariant-loop-setter
 invariant-loop-setter g l =
-    string_bytes l.text ++ required_lines g.S.Compare.compared l.existing g.S.OpenError.PartialEq.eq l.error l.left
-    ≡ string_bytes l.fn.text ++ required_lines g.S.Compare.compared l.existing g.S.OpenError.PartialEq.eq l.error l.setters
+    string_bytes l.text ++ required_lines g.S.Compare.compared l.existing l.reason l.left
+    ≡ string_bytes l.fn.text ++ required_lines g.S.Compare.compared l.existing l.reason l.setters
 
 abbrev pub decreases-loop-setter : goal.decreases-loop-setter
 decreases-loop-setter g l = length l.left
