@@ -184,6 +184,13 @@ fn write_variant(variant: TypeVariant, text: &mut String) -> Result<(), AllocErr
 
 // ---- the settings of each pattern
 
+/// Writes the terms of these settings in order: of each how it is written, and its name.
+macro_rules! write_each {
+    ($settings:expr, $text:expr; $($write:ident $name:ident;)*) => {
+        $($write(stringify!($name), $settings.$name, $text)?;)*
+    };
+}
+
 /// Appends the terms of the pattern's settings.
 fn write_settings(pattern: &MessagingPattern, text: &mut String) -> Result<(), AllocError>
     ensures { OnOk result (Appends text.old text.new (behind (setting_words pattern.now))) }
@@ -198,21 +205,15 @@ fn write_settings(pattern: &MessagingPattern, text: &mut String) -> Result<(), A
 fn write_events(settings: &event::StaticConfig, text: &mut String) -> Result<(), AllocError>
     ensures { OnOk result (Appends text.old text.new (behind (terms_asking (event_settings settings.now)))) }
 {
-    write_number("max_notifiers", settings.max_notifiers, text)?;
-    write_number("max_listeners", settings.max_listeners, text)?;
-    write_number("event_id_max_value", settings.event_id_max_value, text)?;
-    write_number("max_nodes", settings.max_nodes, text)?;
-    write_event(
-        "notifier_created_event",
-        settings.notifier_created_event,
-        text,
-    )?;
-    write_event(
-        "notifier_dropped_event",
-        settings.notifier_dropped_event,
-        text,
-    )?;
-    write_event("notifier_dead_event", settings.notifier_dead_event, text)?;
+    write_each!(settings, text;
+        write_number max_notifiers;
+        write_number max_listeners;
+        write_number event_id_max_value;
+        write_number max_nodes;
+        write_event notifier_created_event;
+        write_event notifier_dropped_event;
+        write_event notifier_dead_event;
+    );
     write_time("deadline", deadline_value(settings.deadline), text)
 }
 
@@ -232,21 +233,15 @@ fn write_samples(
 ) -> Result<(), AllocError>
     ensures { OnOk result (Appends text.old text.new (behind (terms_asking (sample_settings settings.now)))) }
 {
-    write_number("max_publishers", settings.max_publishers, text)?;
-    write_number("max_subscribers", settings.max_subscribers, text)?;
-    write_number(
-        "subscriber_max_buffer_size",
-        settings.subscriber_max_buffer_size,
-        text,
-    )?;
-    write_number("history_size", settings.history_size, text)?;
-    write_number(
-        "subscriber_max_borrowed_samples",
-        settings.subscriber_max_borrowed_samples,
-        text,
-    )?;
-    write_truth("enable_safe_overflow", settings.enable_safe_overflow, text)?;
-    write_number("max_nodes", settings.max_nodes, text)?;
+    write_each!(settings, text;
+        write_number max_publishers;
+        write_number max_subscribers;
+        write_number subscriber_max_buffer_size;
+        write_number history_size;
+        write_number subscriber_max_borrowed_samples;
+        write_truth enable_safe_overflow;
+        write_number max_nodes;
+    );
     write_types(
         "payload",
         "user_header",
@@ -261,47 +256,28 @@ fn write_requests(
 ) -> Result<(), AllocError>
     ensures { OnOk result (Appends text.old text.new (behind (terms_asking (request_settings settings.now)))) }
 {
-    let s = settings;
-    write_truth(
-        "enable_safe_overflow_for_requests",
-        s.enable_safe_overflow_for_requests,
-        text,
-    )?;
-    write_truth(
-        "enable_safe_overflow_for_responses",
-        s.enable_safe_overflow_for_responses,
-        text,
-    )?;
-    write_truth(
-        "enable_fire_and_forget_requests",
-        s.enable_fire_and_forget_requests,
-        text,
-    )?;
-    write_number(
-        "max_active_requests_per_client",
-        s.max_active_requests_per_client,
-        text,
-    )?;
-    write_number("max_loaned_requests", s.max_loaned_requests, text)?;
-    write_number(
-        "max_borrowed_responses_per_pending_response",
-        s.max_borrowed_responses_per_pending_response,
-        text,
-    )?;
-    write_number("max_response_buffer_size", s.max_response_buffer_size, text)?;
-    write_number("max_servers", s.max_servers, text)?;
-    write_number("max_clients", s.max_clients, text)?;
-    write_number("max_nodes", s.max_nodes, text)?;
+    write_each!(settings, text;
+        write_truth enable_safe_overflow_for_requests;
+        write_truth enable_safe_overflow_for_responses;
+        write_truth enable_fire_and_forget_requests;
+        write_number max_active_requests_per_client;
+        write_number max_loaned_requests;
+        write_number max_borrowed_responses_per_pending_response;
+        write_number max_response_buffer_size;
+        write_number max_servers;
+        write_number max_clients;
+        write_number max_nodes;
+    );
     write_types(
         "request_payload",
         "request_header",
-        &s.request_message_type_details,
+        &settings.request_message_type_details,
         text,
     )?;
     write_types(
         "response_payload",
         "response_header",
-        &s.response_message_type_details,
+        &settings.response_message_type_details,
         text,
     )
 }

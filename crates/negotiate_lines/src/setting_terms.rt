@@ -12,16 +12,48 @@ use crate::vocabulary::{HasVocabulary, Kind};
 use iceoryx2_commands::command::{EventSetter, PublishSubscribeSetter, RequestResponseSetter};
 use std::alloc::Global;
 
-const EVENT_SETTINGS: [(&str, Kind); 8] = [
-    ("max_notifiers", Kind::Number),
-    ("max_listeners", Kind::Number),
-    ("event_id_max_value", Kind::Number),
-    ("max_nodes", Kind::Number),
-    ("notifier_created_event", Kind::Event),
-    ("notifier_dropped_event", Kind::Event),
-    ("notifier_dead_event", Kind::Event),
-    ("deadline", Kind::Length),
-];
+/// The names of the settings, with the kind of value that each takes.
+macro_rules! kinds {
+    (; $($name:literal $kind:ident $setter:ident;)*) => { [$(($name, Kind::$kind),)*] };
+}
+
+/// The setter of the setting of a name, with the value in a line of this form.
+macro_rules! setter {
+    ($setters:ident $alloc:ident $form:ident $name:ident $value:ident; $($row:literal $kind:ident $setter:ident;)*) => {
+        match $name {
+            $($row => Ok($setters::$setter(value!($kind $alloc $form $value)?)),)*
+            _ => Err(TermError::Malformed),
+        }
+    };
+}
+
+macro_rules! value {
+    (Number $alloc:ident $form:ident $value:ident) => { number($value) };
+    (Truth $alloc:ident $form:ident $value:ident) => { truth_value($value) };
+    (Event $alloc:ident $form:ident $value:ident) => { event_or_none($value) };
+    (Length $alloc:ident $form:ident $value:ident) => { duration_or_none($value) };
+    (Alignment $alloc:ident $form:ident $value:ident) => { alignment($value) };
+    (Type $alloc:ident $form:ident $value:ident) => { type_detail($alloc, $form, $value) };
+}
+
+/// The rows of events: the name of a setting, the kind of its value, and its setter.
+macro_rules! event_rows {
+    ($make:ident $($given:ident)*) => {
+        $make! {
+            $($given)*;
+            "max_notifiers" Number MaxNotifiers;
+            "max_listeners" Number MaxListeners;
+            "event_id_max_value" Number EventIdMaxValue;
+            "max_nodes" Number MaxNodes;
+            "notifier_created_event" Event NotifierCreatedEvent;
+            "notifier_dropped_event" Event NotifierDroppedEvent;
+            "notifier_dead_event" Event NotifierDeadEvent;
+            "deadline" Length Deadline;
+        }
+    };
+}
+
+const EVENT_SETTINGS: [(&str, Kind); 8] = event_rows!(kinds);
 
 /// The terms of lines of events.
 pub(crate) struct EventTerms;
@@ -44,40 +76,37 @@ impl HasVocabulary for EventTerms {
     }
 
     fn setter(
-        _alloc: Global,
-        _form: Form,
+        alloc: Global,
+        form: Form,
         name: &str,
         value: &str,
     ) -> Result<EventSetter, TermError> {
-        use EventSetter as Setter;
-        match name {
-            "max_notifiers" => Ok(Setter::MaxNotifiers(number(value)?)),
-            "max_listeners" => Ok(Setter::MaxListeners(number(value)?)),
-            "event_id_max_value" => Ok(Setter::EventIdMaxValue(number(value)?)),
-            "max_nodes" => Ok(Setter::MaxNodes(number(value)?)),
-            "notifier_created_event" => Ok(Setter::NotifierCreatedEvent(event_or_none(value)?)),
-            "notifier_dropped_event" => Ok(Setter::NotifierDroppedEvent(event_or_none(value)?)),
-            "notifier_dead_event" => Ok(Setter::NotifierDeadEvent(event_or_none(value)?)),
-            "deadline" => Ok(Setter::Deadline(duration_or_none(value)?)),
-            _ => Err(TermError::Malformed),
-        }
+        event_rows!(setter EventSetter alloc form name value)
     }
 
     ghost is_unambiguous = { refl };
 }
 
-const PUBLISH_SUBSCRIBE_SETTINGS: [(&str, Kind); 10] = [
-    ("max_publishers", Kind::Number),
-    ("max_subscribers", Kind::Number),
-    ("subscriber_max_buffer_size", Kind::Number),
-    ("history_size", Kind::Number),
-    ("subscriber_max_borrowed_samples", Kind::Number),
-    ("enable_safe_overflow", Kind::Truth),
-    ("max_nodes", Kind::Number),
-    ("payload", Kind::Type),
-    ("user_header", Kind::Type),
-    ("payload_alignment", Kind::Alignment),
-];
+/// The rows of publish-subscribe: the name of a setting, the kind of its value, and its setter.
+macro_rules! publish_subscribe_rows {
+    ($make:ident $($given:ident)*) => {
+        $make! {
+            $($given)*;
+            "max_publishers" Number MaxPublishers;
+            "max_subscribers" Number MaxSubscribers;
+            "subscriber_max_buffer_size" Number SubscriberMaxBufferSize;
+            "history_size" Number HistorySize;
+            "subscriber_max_borrowed_samples" Number SubscriberMaxBorrowedSamples;
+            "enable_safe_overflow" Truth EnableSafeOverflow;
+            "max_nodes" Number MaxNodes;
+            "payload" Type PayloadType;
+            "user_header" Type UserHeaderType;
+            "payload_alignment" Alignment PayloadAlignment;
+        }
+    };
+}
+
+const PUBLISH_SUBSCRIBE_SETTINGS: [(&str, Kind); 10] = publish_subscribe_rows!(kinds);
 
 /// The terms of lines of publish-subscribe.
 pub(crate) struct PublishSubscribeTerms;
@@ -105,45 +134,38 @@ impl HasVocabulary for PublishSubscribeTerms {
         name: &str,
         value: &str,
     ) -> Result<PublishSubscribeSetter, TermError> {
-        use PublishSubscribeSetter as Setter;
-        match name {
-            "max_publishers" => Ok(Setter::MaxPublishers(number(value)?)),
-            "max_subscribers" => Ok(Setter::MaxSubscribers(number(value)?)),
-            "subscriber_max_buffer_size" => Ok(Setter::SubscriberMaxBufferSize(number(value)?)),
-            "history_size" => Ok(Setter::HistorySize(number(value)?)),
-            "subscriber_max_borrowed_samples" => Ok(Setter::SubscriberMaxBorrowedSamples(number(
-                value,
-            )?)),
-            "enable_safe_overflow" => Ok(Setter::EnableSafeOverflow(truth_value(value)?)),
-            "max_nodes" => Ok(Setter::MaxNodes(number(value)?)),
-            "payload" => Ok(Setter::PayloadType(type_detail(alloc, form, value)?)),
-            "user_header" => Ok(Setter::UserHeaderType(type_detail(alloc, form, value)?)),
-            "payload_alignment" => Ok(Setter::PayloadAlignment(alignment(value)?)),
-            _ => Err(TermError::Malformed),
-        }
+        publish_subscribe_rows!(setter PublishSubscribeSetter alloc form name value)
     }
 
     ghost is_unambiguous = { refl };
 }
 
-const REQUEST_RESPONSE_SETTINGS: [(&str, Kind); 16] = [
-    ("enable_safe_overflow_for_requests", Kind::Truth),
-    ("enable_safe_overflow_for_responses", Kind::Truth),
-    ("enable_fire_and_forget_requests", Kind::Truth),
-    ("max_active_requests_per_client", Kind::Number),
-    ("max_loaned_requests", Kind::Number),
-    ("max_borrowed_responses_per_pending_response", Kind::Number),
-    ("max_response_buffer_size", Kind::Number),
-    ("max_servers", Kind::Number),
-    ("max_clients", Kind::Number),
-    ("max_nodes", Kind::Number),
-    ("request_payload", Kind::Type),
-    ("request_header", Kind::Type),
-    ("request_payload_alignment", Kind::Alignment),
-    ("response_payload", Kind::Type),
-    ("response_header", Kind::Type),
-    ("response_payload_alignment", Kind::Alignment),
-];
+/// The rows of request-response: the name of a setting, the kind of its value, and its setter.
+macro_rules! request_response_rows {
+    ($make:ident $($given:ident)*) => {
+        $make! {
+            $($given)*;
+            "enable_safe_overflow_for_requests" Truth EnableSafeOverflowForRequests;
+            "enable_safe_overflow_for_responses" Truth EnableSafeOverflowForResponses;
+            "enable_fire_and_forget_requests" Truth EnableFireAndForgetRequests;
+            "max_active_requests_per_client" Number MaxActiveRequestsPerClient;
+            "max_loaned_requests" Number MaxLoanedRequests;
+            "max_borrowed_responses_per_pending_response" Number MaxBorrowedResponsesPerPendingResponse;
+            "max_response_buffer_size" Number MaxResponseBufferSize;
+            "max_servers" Number MaxServers;
+            "max_clients" Number MaxClients;
+            "max_nodes" Number MaxNodes;
+            "request_payload" Type RequestPayloadType;
+            "request_header" Type RequestHeaderType;
+            "request_payload_alignment" Alignment RequestPayloadAlignment;
+            "response_payload" Type ResponsePayloadType;
+            "response_header" Type ResponseHeaderType;
+            "response_payload_alignment" Alignment ResponsePayloadAlignment;
+        }
+    };
+}
+
+const REQUEST_RESPONSE_SETTINGS: [(&str, Kind); 16] = request_response_rows!(kinds);
 
 /// The terms of lines of request-response.
 pub(crate) struct RequestResponseTerms;
@@ -171,36 +193,7 @@ impl HasVocabulary for RequestResponseTerms {
         name: &str,
         value: &str,
     ) -> Result<RequestResponseSetter, TermError> {
-        use RequestResponseSetter as Setter;
-        match name {
-            "enable_safe_overflow_for_requests" => Ok(Setter::EnableSafeOverflowForRequests(
-                truth_value(value)?,
-            )),
-            "enable_safe_overflow_for_responses" => Ok(Setter::EnableSafeOverflowForResponses(
-                truth_value(value)?,
-            )),
-            "enable_fire_and_forget_requests" => Ok(Setter::EnableFireAndForgetRequests(truth_value(
-                value,
-            )?)),
-            "max_active_requests_per_client" => Ok(Setter::MaxActiveRequestsPerClient(number(
-                value,
-            )?)),
-            "max_loaned_requests" => Ok(Setter::MaxLoanedRequests(number(value)?)),
-            "max_borrowed_responses_per_pending_response" => Ok(
-                Setter::MaxBorrowedResponsesPerPendingResponse(number(value)?),
-            ),
-            "max_response_buffer_size" => Ok(Setter::MaxResponseBufferSize(number(value)?)),
-            "max_servers" => Ok(Setter::MaxServers(number(value)?)),
-            "max_clients" => Ok(Setter::MaxClients(number(value)?)),
-            "max_nodes" => Ok(Setter::MaxNodes(number(value)?)),
-            "request_payload" => Ok(Setter::RequestPayloadType(type_detail(alloc, form, value)?)),
-            "request_header" => Ok(Setter::RequestHeaderType(type_detail(alloc, form, value)?)),
-            "request_payload_alignment" => Ok(Setter::RequestPayloadAlignment(alignment(value)?)),
-            "response_payload" => Ok(Setter::ResponsePayloadType(type_detail(alloc, form, value)?)),
-            "response_header" => Ok(Setter::ResponseHeaderType(type_detail(alloc, form, value)?)),
-            "response_payload_alignment" => Ok(Setter::ResponsePayloadAlignment(alignment(value)?)),
-            _ => Err(TermError::Malformed),
-        }
+        request_response_rows!(setter RequestResponseSetter alloc form name value)
     }
 
     ghost is_unambiguous = { refl };
