@@ -61,7 +61,8 @@ WrongValue form v h name value (wrong.NoTime t) =
 WrongValue form v h name value wrong.NowWithOpen = (name ≡ codes "now") × (h ≡ how.Open) × (v.has_clock ≡ true)
 WrongValue form v h name value (wrong.NowOfPattern t) =
     (name ≡ codes "now") × (v.has_clock ≡ false) × (t.now ≡ v.pattern)
-WrongValue form v h name value (wrong.Value n t kind) = (n.now ≡ name) × (t.now ≡ value) × IsNoValue form v name value kind
+WrongValue form v h name value (wrong.Value n t kind) =
+    (n.now ≡ name) × (t.now ≡ value) × IsNoValue form v name value kind
 WrongValue form v h name value (wrong.NoSuchSetting n pattern settings admitted) =
     (n.now ≡ name) × IsNoSetting v h name pattern.now settings.now admitted
 WrongValue form v h name value _ = ⊥
@@ -94,8 +95,8 @@ pub data WrongText {S : Type 0} (form : Form) (v : Vocabulary S) (h : How) (term
       → WrongText form v h term w
 
 -- What is wrong with a term: it means nothing, or what it means can't be followed.
-pub data WrongTerm {S : Type 0} (form : Form) (v : Vocabulary S) (h : How) (old : Arguments S) (term : List ℕ) (w : Wrong)
-    : Type 0 where
+pub data WrongTerm {S : Type 0} (form : Form) (v : Vocabulary S) (h : How) (old : Arguments S) (term : List ℕ)
+    (w : Wrong) : Type 0 where
   no_instruction : ((instruction : Instruction S) → IsInstructionOf form v (admitted_of v.has_clock h) term instruction
       → ⊥) → WrongText form v h term w
       → WrongTerm form v h old term w

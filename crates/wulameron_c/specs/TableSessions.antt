@@ -30,8 +30,8 @@ TableLines = AnswersEscapedLine
 abbrev pub Replies : (line : List ℕ) → TableSession → TableSession → Type 0
 Replies line old new = TableLines old.answerer line (string_bytes new.reply) new.answerer
 
--- A reply is at the front of its place, and what stood behind stays; or it has more bytes than the place, which is as it
--- was.
+-- A reply is at the front of its place, and what stood behind stays; or it has more bytes than the place, which is as
+-- it was.
 pub data WritesReply (reply place : List ℕ) : (code : ℕ) → List ℕ → (written : ℕ) → Type 0 where
   fits : {new : List ℕ} {written : ℕ} → length reply ≤ length place → new ≡ reply ++ drop (length reply) place
       → written ≡ length reply → WritesReply reply place 0 new written

@@ -98,7 +98,8 @@ module _ {L : Type 0} (contents : L → Option Contents) (held : L → Bool) (re
     pub settles : EndsSettled (SpansTraced (Lives contents)) (λ t. OwesNothing t.inner.world) node left served ended
     pub serves : Serves (SpansTraced (Lives contents)) (SpansTraced ShowsOthers) (SpansTraced (Spans contents))
         (IsTracedAccess (IsAccessOver contents held)) (λ t. t.inner.world) (λ t. trouble_at refused t.inner)
-        (WritesExplained (IsAccessOver contents held) (λ j. j.world)) (codes "\n") node w first served left input old new
+        (WritesExplained (IsAccessOver contents held) (λ j. j.world))
+        (codes "\n") node w first served left input old new
 
   -- It serves so; or it ends by the log or out of memory, and nothing is written.
   pub data ServesLog (explains : Bool) (ended : Result Ending Halt) (input : List ℕ) (old new : Option (List ℕ))

@@ -185,7 +185,8 @@ impl<S: Viewed + Resuming + Troubled, D: DeadNodes + Drop> NodeAnswerer<S, D> {
 
     /// Closes all that is open, and gives the storage back.
     pub fn finish(self) -> S
-        ensures closes { ClosesHeld S.spans S.step (own_state self.session).table (own_state self.session).slots result }
+        ensures closes { ClosesHeld S.spans S.step (own_state self.session).table
+            (own_state self.session).slots result }
         ensures agrees { StandsFor S.world S.own S.ready self.node (own_state self.session)
             → Agrees (S.world result) }
     {
@@ -366,7 +367,8 @@ impl<S: Viewed + Resuming + Troubled + Drop, D: DeadNodes + Drop> NodeAnswerer<S
         requires of_own { S.own storage node ≡ true }
         requires ready { S.ready storage }
         ensures node { IfOk result (λ answerer. answerer.node ≡ node) }
-        ensures shows { IfOk result (λ answerer. SpansSession S.shows (fresh_session storage) (own_state answerer.session)) }
+        ensures shows { IfOk result (λ answerer.
+            SpansSession S.shows (fresh_session storage) (own_state answerer.session)) }
         ensures stands { IfOk result (λ answerer. StandsFor S.world S.own S.ready node (own_state answerer.session)) }
         ensures usable { IfOk result (λ answerer. IsUsable (or_gone answerer.is_gone
             (S.trouble (own_state answerer.session).table))) }
