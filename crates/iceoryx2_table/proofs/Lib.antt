@@ -10,7 +10,3 @@ pub mod Recording
 pub mod Held
 pub mod Alike
 pub mod NumbersSpent
-pub mod Needs
-pub mod Agreed
-pub mod Described
-pub mod Throughout

@@ -1,5 +1,3 @@
-pub mod Agreeing
-pub mod AgreeingAcross
 pub mod ServicesState
 pub mod Comparing
 pub mod Decided

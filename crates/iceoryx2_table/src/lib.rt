@@ -12,12 +12,9 @@
 //! change what others may have to know take what writes them down (`Recorder`). Each is the node's own part with
 //! nothing written, a granted own part that was written once, or the general fault with the world as it was, and the
 //! recorder refused (`IsRecordedPart`); the first two are told apart by answer and world (`is_written`).
-//! `StoredWorld::agrees` is true exactly where the world agrees, and `agrees_at`, `tickets_agree_at` and
-//! `numbers_agree` likewise, unless a description finds no memory; `is_same` is exact. `spend` spends a number as locks
-//! that are given up do (`laws_of_spending()`).
+//! `is_same` is exact. `spend` spends a number as locks that are given up do (`laws_of_spending()`).
 #![tactic(auto)]
 
-pub mod agreeing;
 pub mod holdings;
 pub mod laws;
 pub mod local;

@@ -4,7 +4,10 @@ use Rattle.std.proofs.Common.{Result, Ok, Err, IfOk, IfErr, ◌↔◌, ◌≢◌
 use Rattle.std.proofs.Common.{◌∙◌, append_assoc, inr, length-append, arith}
 use Rattle.std.proofs.lemmas.List.{length-take-le, take-append-drop, take_at, take_rest}
 use Rattle.iceoryx2_world.specs.World.{World}
-use Rattle.iceoryx2_world.specs.Across.{Agrees}
+use Rattle.iceoryx2_world.proofs.agreement.Empty.{empty_agrees}
+use Rattle.iceoryx2_access.specs.Run as run
+use Rattle.iceoryx2_journal.proofs.ComingTo.{comes_keep}
+use Rattle.iceoryx2_journal.proofs.Replaying.{entries_come}
 use Rattle.iceoryx2_log.specs.declared.entry.Entry.{Entry}
 use Rattle.iceoryx2_log.specs.Form.{IsForm, Begins}
 use Rattle.iceoryx2_file_log.specs.declared.header.TheConstants.{HEADER_LENGTH}
@@ -19,12 +22,18 @@ use Rattle.wulameron_trail.specs.declared.checker.Sound.{Sound}
 use Rattle.wulameron_trail.specs.declared.checker.Wrong.{Wrong}
 use Rattle.wulameron_trail.specs.declared.checker.Found.{Found}
 use Rattle.wulameron_trail.specs.declared.checker.Verdict.TheVariants as verdict
-use Rattle.wulameron_trail.specs.Checking.{Reaches, goes, Fits, IsAccess, IsEnd, IsNoHeader, IsWrongNext, Parts}
+use Rattle.wulameron_trail.specs.Checking.{Reaches, ReachedWorldsAgree, begun, goes, Fits, IsAccess, IsEnd, IsNoHeader, IsWrongNext, Parts}
 use Rattle.wulameron_trail.specs.declared.checker.Step.{Step}
 use Rattle.wulameron_trail.specs.Steps.{IsStep, IsVerdictOn}
 use Rattle.std.specs.declared.alloc.AllocError.{AllocError}
 use Rattle.iceoryx2_file_log.specs.declared.remainder.Front.{Front}
 use Rattle.iceoryx2_file_log.specs.declared.remainder.Front.TheVariants as front
+
+-- what entries come to from a world that agrees does so
+pub reached_agree : ReachedWorldsAgree
+reached_agree h bytes n w begun = empty_agrees h.counter
+reached_agree h bytes n w (goes {bytes = taken} {n = k} {w = old} e form before is fits follows) =
+    (comes_keep (entries_come (run.next follows run.done)) (reached_agree h taken k old before)).0
 
 -- no form is empty
 form_is_long : (e : Entry) (form : List ℕ) → IsForm e form → 1 ≤ length form
@@ -37,8 +46,8 @@ pub record GoesOn (h : Header) (entries : List ℕ) (at count place : ℕ) (u : 
 
 pub goes_on : (h : Header) (entries : List ℕ) (at place count : ℕ) (w u : World) (e : Entry) → at ≤ length entries
     → Reaches h (take at entries) place w → Begins (drop at entries) e count → Fits h.snapshot_length at count
-    → IsFollowed w e u → Agrees u → GoesOn h entries at count place u
-goes_on h entries at place count w u e le reaches begins fits is agrees =
+    → IsFollowed w e u → GoesOn h entries at count place u
+goes_on h entries at place count w u e le reaches begins fits is =
     let before : length (take at entries) ≡ at = length-take-le at entries le in
     let all : entries ≡ (take at entries ++ begins.form) ++ begins.rest =
     sym (take-append-drop at entries) ∙ ap (λ (l : List ℕ). take at entries ++ l) begins.parts
@@ -53,7 +62,7 @@ goes_on h entries at place count w u e le reaches begins fits is agrees =
       within = omega (arith, ap length all, length-append (take at entries ++ begins.form) begins.rest, long);
       some = omega (arith, form_is_long e begins.form begins.is_form, begins.counted);
       reaches = subst (λ (l : List ℕ). Reaches h l (place + 1) u) (sym next)
-          (goes e begins.form reaches begins.is_form fitting is agrees);
+          (goes e begins.form reaches begins.is_form fitting is);
     }
 
 parts_there : (h : Header) (entries : List ℕ) (at place : ℕ) (w : World) (bytes front : List ℕ)

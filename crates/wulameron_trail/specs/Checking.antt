@@ -28,12 +28,16 @@ abbrev pub Fits : (snapshot at count : ℕ) → Type 0
 Fits snapshot at count = (at + count ≤ snapshot) ⊎ (snapshot ≤ at)
 
 -- The bytes are so many entries' forms, one after the other. In their order the entries come to this world from an
--- empty one with the header's counter, and the world agrees after each. None stands across the end of the snapshot.
+-- empty one with the header's counter. None stands across the end of the snapshot.
 pub data Reaches (h : Header) : List ℕ → ℕ → World → Type 0 where
   begun : Reaches h [] 0 (empty_world h.counter)
   goes : {bytes : List ℕ} {n : ℕ} {w u : World} (e : Entry) (form : List ℕ) → Reaches h bytes n w
-      → IsForm e form → Fits h.snapshot_length (length bytes) (length form) → IsFollowed w e u → Agrees u
+      → IsForm e form → Fits h.snapshot_length (length bytes) (length form) → IsFollowed w e u
       → Reaches h (bytes ++ form) (n + 1) u
+
+-- Each world that entries come to so agrees. So none has to be tested for it.
+abbrev pub ReachedWorldsAgree : Type 0
+ReachedWorldsAgree = (h : Header) (bytes : List ℕ) (n : ℕ) (w : World) → Reaches h bytes n w → Agrees w
 
 -- The bytes are a header, entries that are followed, and a rest; this is the world there.
 pub record Parts (bytes : List ℕ) (h : Header) (taken rest : List ℕ) (n : ℕ) (w : World) : Type 0 where
@@ -95,9 +99,6 @@ IsWrongNext snapshot w at rest wrong.DamagedEntry =
     (IsTorn rest → ⊥) × ((e : Entry) (count : ℕ) → Begins rest e count → ⊥)
 IsWrongNext snapshot w at rest wrong.NotAnswered =
     (e : Entry) × (count : ℕ) × (u : World) × IsAccess rest e count × Fits snapshot at count × Differs w e u
-IsWrongNext snapshot w at rest wrong.NoAgreement =
-    (e : Entry) × (count : ℕ) × (u : World) × IsAccess rest e count × Fits snapshot at count
-    × IsFollowed w e u × (Agrees u → ⊥)
 IsWrongNext snapshot w at rest wrong.ShortSnapshot = IsShort snapshot at rest
 IsWrongNext snapshot w at rest wrong.MarkNotLast =
     (e : Entry) × (count : ℕ) × Begins rest e count × (e.deed ≡ Mark) × (count < length rest)

@@ -1,7 +1,6 @@
 -- What comes of the next bytes of a log.
 use Rattle.std.specs.Prelude.{◌≡◌, ◌≤◌, ℕ, List, ◌++◌}
 use Rattle.iceoryx2_world.specs.World.{World}
-use Rattle.iceoryx2_world.specs.Across.{Agrees}
 use Rattle.iceoryx2_log.specs.declared.entry.Entry.{Entry}
 use Rattle.iceoryx2_file_log.specs.declared.header.Header.{Header}
 use Rattle.iceoryx2_file_log.specs.Header.{IsForm as IsHeaderForm}
@@ -14,7 +13,7 @@ use Rattle.wulameron_trail.specs.Checking.{Fits, IsAccess, IsEnd, IsVerdict, IsW
 -- The first thing of the rest, after so many bytes of entries that come to the old world.
 abbrev pub IsStep : (snapshot : ℕ) → World → (at : ℕ) → List ℕ → Step → World → Type 0
 IsStep snapshot old at rest (Followed count) new =
-    (e : Entry) × IsAccess rest e count × Fits snapshot at count × IsFollowed old e new × Agrees new
+    (e : Entry) × IsAccess rest e count × Fits snapshot at count × IsFollowed old e new
 IsStep snapshot old at rest (Ended ending) new = IsEnd rest ending × (snapshot ≤ at)
 IsStep snapshot old at rest (Failed wrong) new = IsWrongNext snapshot old at rest wrong
 

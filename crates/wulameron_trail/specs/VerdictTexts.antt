@@ -23,7 +23,6 @@ wrong_text (wrong.BadHeader (header.AnotherVersion found)) = codes "this is a lo
 wrong_text (wrong.BadHeader header.Damaged) = codes "the header is damaged"
 wrong_text wrong.DamagedEntry = codes "the entry is damaged"
 wrong_text wrong.NotAnswered = codes "the entry is not what the services before it answer"
-wrong_text wrong.NoAgreement = codes "after the entry the services don't agree"
 wrong_text wrong.ShortSnapshot = codes "the snapshot is shorter than the header has it"
 wrong_text wrong.MarkNotLast = codes "more follows the mark that the log goes on in another file"
 
@@ -34,7 +33,6 @@ remedy (wrong.BadHeader (header.AnotherVersion found)) = codes "use a program of
 remedy (wrong.BadHeader header.Damaged) = codes "begin another log"
 remedy wrong.DamagedEntry = codes "begin another log"
 remedy wrong.NotAnswered = codes "see which program wrote it, and begin another log"
-remedy wrong.NoAgreement = codes "report it with a copy of the log, and begin another"
 remedy wrong.ShortSnapshot = codes "begin another log"
 remedy wrong.MarkNotLast = codes "check the file that has its path now, and begin another log where it is this one"
 

@@ -8,7 +8,7 @@ ghost use Rattle.iceoryx2_file_log.specs.Remainder.{IsTorn};
 ghost use Rattle.iceoryx2_file_log.specs.declared.header.TheConstants.{HEADER_LENGTH as header_length};
 ghost use Rattle.iceoryx2_log.specs.Form.{Begins};
 ghost use Rattle.iceoryx2_file_log.specs.Header.{IsForm as IsHeaderForm};
-ghost use Rattle.wulameron_trail.specs.Checking.{Fits, IsAccess, IsEnd, IsNoHeader, IsVerdict};
+ghost use Rattle.wulameron_trail.specs.Checking.{Fits, IsAccess, IsEnd, IsNoHeader, IsVerdict, ReachedWorldsAgree};
 ghost use Rattle.wulameron_trail.specs.Steps.{IsStep, IsVerdictOn};
 
 use iceoryx2_file_log::header::{self, HEADER_LENGTH, Header, HeaderError};
@@ -48,8 +48,6 @@ pub enum Wrong {
     DamagedEntry,
     /// The entry isn't what the world answers.
     NotAnswered,
-    /// After the entry the world doesn't agree.
-    NoAgreement,
     /// The snapshot ends before the length that the header has: within an entry, or with the file.
     ShortSnapshot,
     /// More follows the mark that the log goes on in another file.
@@ -158,13 +156,7 @@ fn accessed(
         return Ok(Step::Failed(Wrong::ShortSnapshot));
     }
     match follow(alloc, world, entry) {
-        Ok(()) => {
-            if world.agrees()? {
-                Ok(Step::Followed(span.count))
-            } else {
-                Ok(Step::Failed(Wrong::NoAgreement))
-            }
-        }
+        Ok(()) => Ok(Step::Followed(span.count)),
         Err(error) => match error {
             FollowError::OutOfMemory => Err(AllocError),
             FollowError::Disagrees => Ok(Step::Failed(Wrong::NotAnswered)),
@@ -269,9 +261,10 @@ fn header_of(bytes: &[u8]) -> Result<Header, HeaderError>
 }
 
 /// What the bytes of a log's file are: sound, or not and then the first thing that is wrong. They are sound where they
-/// are a header and entries, each of which is what the world before it answers and leaves a world that agrees, with the
-/// whole snapshot among them, and after these nothing, what a writer left that died, or the mark that the log goes on
-/// in another file. `AllocError` where there is no memory. It tests the whole world after each entry.
+/// are a header and entries, each of which is what the world before it answers, with the whole snapshot among them, and
+/// after these nothing, what a writer left that died, or the mark that the log goes on in another file. It goes over
+/// the bytes once. Whether a world agrees isn't tested: each one that is followed does (`laws_of_checking`).
+/// `AllocError` where there is no memory.
 pub fn check(alloc: Global, bytes: &[u8]) -> Result<Verdict, AllocError>
     ensures { IfOk result (IsVerdict bytes.now) }
 {
@@ -285,3 +278,8 @@ pub fn check(alloc: Global, bytes: &[u8]) -> Result<Verdict, AllocError>
         })),
     }
 }
+
+/// What is true of each world that the entries of a log come to.
+pub fn laws_of_checking()
+    ensures { ReachedWorldsAgree }
+{}

@@ -6,8 +6,9 @@
 //! entries there, in order, up to a torn end, a mark, damage, or an entry that isn't followed; if the output or
 //! memory fails, a front of that (`ShowsRest`).
 //!
-//! `checker::check`: where it finds a log sound, the bytes are a header and entries each of which is followed to a
-//! world that agrees, and then nothing, or what a writer left that died (`IsSound`); what else it names is there,
+//! `checker::check`: where it finds a log sound, the bytes are a header and entries each of which is followed, and then
+//! nothing, or what a writer left that died (`IsSound`), and the world that they come to agrees
+//! (`checker::laws_of_checking`); what else it names is there,
 //! after a sound front (`IsVerdict`), but for an entry that isn't answered: any world meets that clause, and only
 //! tests show that no sound log is refused so. `print_verdict` writes its line (`WritesVerdictOf`). Of the loops that
 //! look at a file again, and go over to the file in which a log goes on, only that they are safe is proved.

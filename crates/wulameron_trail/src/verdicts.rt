@@ -69,7 +69,6 @@ fn words_of(alloc: Global, wrong: Wrong) -> Result<String, AllocError>
         Wrong::NotAnswered => {
             String::from_str(alloc, "the entry is not what the services before it answer")
         }
-        Wrong::NoAgreement => String::from_str(alloc, "after the entry the services don't agree"),
         Wrong::ShortSnapshot => {
             String::from_str(alloc, "the snapshot is shorter than the header has it")
         }
@@ -91,7 +90,6 @@ fn remedy(wrong: Wrong) -> &'static str
         Wrong::BadHeader(HeaderError::Damaged) => "begin another log",
         Wrong::DamagedEntry => "begin another log",
         Wrong::NotAnswered => "see which program wrote it, and begin another log",
-        Wrong::NoAgreement => "report it with a copy of the log, and begin another",
         Wrong::ShortSnapshot => "begin another log",
         Wrong::MarkNotLast => {
             "check the file that has its path now, and begin another log where it is this one"

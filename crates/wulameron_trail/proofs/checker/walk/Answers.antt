@@ -34,7 +34,7 @@ loop-place-preserved c =
     let took = step_as c.args.header.now c.args.entries.now c.loop-place.at c.loop-place.world c.next_step.new.world c.in_ok-count.field-0
     (Followed c.in-Followed.count) c.in_ok-count.ensures c.in-Followed.is in
     let on = goes_on c.args.header.now c.args.entries.now c.loop-place.at c.loop-place.place c.in-Followed.count c.loop-place.world c.next_step.new.world
-    took.0 held.within held.reaches took.1.0 took.2 took.3 took.4 in
+    took.0 held.within held.reaches took.1.0 took.2 took.3 in
     record {
       within = on.within;
       counted = omega (arith, held.counted, on.some);
