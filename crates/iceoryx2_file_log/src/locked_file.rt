@@ -7,6 +7,7 @@ use crate::error::{FileFault, system_fault};
 use crate::medium::Medium;
 use crate::opening::read_some;
 use std::fs::{File, TryLockError};
+use std::io::{Seek, SeekFrom};
 use std::os::unix::fs::FileExt;
 
 /// A file under its advisory lock, for some calls.
@@ -30,8 +31,10 @@ impl<'a> Medium for LockedFile<'a> {
             Err(TryLockError::WouldBlock) => return Ok(None),
             Err(TryLockError::Error(error)) => return Err(system_fault(&error)),
         }
-        match self.file.metadata() {
-            Ok(metadata) => Ok(Some(metadata.len())),
+        // Where the file ends: `metadata` fills a buffer of 4 kB with zeros at each call.
+        let mut file = self.file;
+        match file.seek(SeekFrom::End(0)) {
+            Ok(length) => Ok(Some(length)),
             Err(error) => {
                 let _ = self.file.unlock();
                 Err(system_fault(&error))
