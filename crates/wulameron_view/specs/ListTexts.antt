@@ -11,6 +11,7 @@ use Rattle.wulameron_view.specs.declared.services.Creation.{Creation}
 use Rattle.wulameron_view.specs.declared.services.Services.{Services}
 use Rattle.wulameron_view.specs.declared.list_text.Column.{Column}
 use Rattle.wulameron_view.specs.declared.list_text.Column.TheVariants as column
+use Rattle.wulameron_view.specs.declared.list_text.Widths.{Widths}
 use Rattle.negotiate_lines.specs.Escapes.{escaped}
 use Rattle.wulameron_view.specs.Tables.{padded, width_of}
 
@@ -75,17 +76,26 @@ cell_of column.Name c = c.name
 cell_of column.Nodes c = c.nodes
 cell_of column.Creator c = c.creator
 
-abbrev pub column_cell : List Cells → Column → Cells → List ℕ
-column_cell lines column c = padded (width_of (cell_of column) lines) (cell_of column c) ++ codes "  "
+-- how wide each column of these lines is
+abbrev pub widths_of : List Cells → Widths
+widths_of lines = record {
+  pattern = width_of (cell_of column.Pattern) lines;
+  name = width_of (cell_of column.Name) lines;
+  nodes = width_of (cell_of column.Nodes) lines;
+  creator = width_of (cell_of column.Creator) lines;
+}
 
--- a line's cells, each padded to its column in these lines, two spaces apart
-abbrev pub line_text : List Cells → Cells → List ℕ
-line_text lines c =
-    column_cell lines column.Pattern c ++ (column_cell lines column.Name c ++ (column_cell lines column.Nodes c
-    ++ (column_cell lines column.Creator c ++ (c.number ++ codes "\n"))))
+abbrev pub cell_text : (width : ℕ) → List ℕ → List ℕ
+cell_text width cell = padded width cell ++ codes "  "
+
+-- a line's cells, each padded to its column, two spaces apart
+abbrev pub line_text : Widths → Cells → List ℕ
+line_text w c =
+    cell_text w.pattern c.pattern ++ (cell_text w.name c.name ++ (cell_text w.nodes c.nodes
+    ++ (cell_text w.creator c.creator ++ (c.number ++ codes "\n"))))
 
 -- The header, a line for each service, and how many they are.
 abbrev pub list_text : Services → List ℕ
 list_text all =
-    flat_map (line_text (list_cells all)) (list_cells all)
+    flat_map (line_text (widths_of (list_cells all))) (list_cells all)
     ++ (decimal (length all.published.items + length all.creations.items) ++ codes " services\n")

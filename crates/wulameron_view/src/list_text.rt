@@ -2,9 +2,9 @@
 
 ghost use Rattle.std.specs.Prelude.{◌≡◌, ◌++◌, IfOk, OnOk, codes, decimal, map, string_bytes};
 ghost use Rattle.std.specs.List.{flat_map};
-ghost use Rattle.wulameron_view.specs.ListTexts.{cell_of, column_cell, creation_cells, header};
+ghost use Rattle.wulameron_view.specs.ListTexts.{cell_of, cell_text, creation_cells, header};
 ghost use Rattle.wulameron_view.specs.ListTexts.{line_text, list_cells, list_text as list_text_of, node_or_dash};
-ghost use Rattle.wulameron_view.specs.ListTexts.{pattern_term, service_cells};
+ghost use Rattle.wulameron_view.specs.ListTexts.{pattern_term, service_cells, widths_of as widths_of_spec};
 ghost use Rattle.wulameron_view.specs.Tables.{width_of};
 
 use crate::services::{Creation, Service, Services};
@@ -46,6 +46,15 @@ enum Column {
     Name,
     Nodes,
     Creator,
+}
+
+/// How wide the padded columns are.
+#[derive(Clone, Copy)]
+struct Widths {
+    pattern: usize,
+    name: usize,
+    nodes: usize,
+    creator: usize,
 }
 
 impl Line {
@@ -161,40 +170,47 @@ fn add_creations(
     Ok(())
 }
 
-/// Writes all lines.
+/// Writes all lines. It goes over them five times: once for each column's width, and once to write them.
 fn write_lines(lines: &[Line], text: &mut String) -> Result<(), AllocError>
     ensures { OnOk result (string_bytes text.new
-        ≡ string_bytes text.old ++ flat_map (line_text lines.now) lines.now) }
+        ≡ string_bytes text.old ++ flat_map (line_text (widths_of_spec lines.now)) lines.now) }
 {
+    let widths = widths_of(lines);
     for line in lines {
-        write_line(lines, line, text)?;
+        write_line(widths, line, text)?;
     }
     Ok(())
 }
 
-/// Writes a line, padded as these lines are.
-fn write_line(lines: &[Line], line: &Line, text: &mut String) -> Result<(), AllocError>
-    ensures { OnOk result (string_bytes text.new ≡ string_bytes text.old ++ line_text lines.now line.now) }
+/// How wide each column of these lines is.
+fn widths_of(lines: &[Line]) -> Widths
+    ensures { result ≡ widths_of_spec lines.now }
 {
-    write_cell(lines, Column::Pattern, line, text)?;
-    write_cell(lines, Column::Name, line, text)?;
-    write_cell(lines, Column::Nodes, line, text)?;
-    write_cell(lines, Column::Creator, line, text)?;
+    Widths {
+        pattern: widest(lines, Column::Pattern),
+        name: widest(lines, Column::Name),
+        nodes: widest(lines, Column::Nodes),
+        creator: widest(lines, Column::Creator),
+    }
+}
+
+/// Writes a line, padded to these widths.
+fn write_line(widths: Widths, line: &Line, text: &mut String) -> Result<(), AllocError>
+    ensures { OnOk result (string_bytes text.new ≡ string_bytes text.old ++ line_text widths line.now) }
+{
+    write_cell(line.cell(Column::Pattern), widths.pattern, text)?;
+    write_cell(line.cell(Column::Name), widths.name, text)?;
+    write_cell(line.cell(Column::Nodes), widths.nodes, text)?;
+    write_cell(line.cell(Column::Creator), widths.creator, text)?;
     let number = line.number();
     writeln!(text, "{number}")
 }
 
 /// Writes a cell and what separates it from the next one.
-fn write_cell(
-    lines: &[Line],
-    column: Column,
-    line: &Line,
-    text: &mut String,
-) -> Result<(), AllocError>
-    ensures { OnOk result (string_bytes text.new
-        ≡ string_bytes text.old ++ column_cell lines.now column line.now) }
+fn write_cell(cell: &str, width: usize, text: &mut String) -> Result<(), AllocError>
+    ensures { OnOk result (string_bytes text.new ≡ string_bytes text.old ++ cell_text width cell.now) }
 {
-    write_padded(line.cell(column), widest(lines, column), text)?;
+    write_padded(cell, width, text)?;
     text.push_str("  ")
 }
 
