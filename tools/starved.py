@@ -22,7 +22,7 @@ PATTERNS = {"event": "Event", "pubsub": "PublishSubscribe", "rr": "RequestRespon
 ASKING = ("fetch", "make_tag", "lock", "make_segment", "publish", "open_segment")
 SPARING = ("exists", "counts", "remove_tag", "remove_segment", "remove_description", "release", "close")
 VALUES = ("decode", "encode", "hash", "define", "require", "type")
-# The tables of vectors and of trees. Questions of values are over one of them too.
+# The tables of vectors and of chunks. Questions of values are over one of them too.
 STORAGES = ("table", "large")
 # What the driver says where its own request was refused, before or after what is asked.
 OUTSIDE = "out of memory"
@@ -54,9 +54,9 @@ def terms_of(question):
     return re.search(" (attribute|require_key)=", question) is not None, re.search("(payload|header)=", question) is not None
 
 
-def grown(storage, standing):
-    """What a storage is kept in has grown so far behind so many calls: a vector doubles, and a tree grows at any of them."""
-    return min(standing, 16) if storage == "large" else min(standing, 8).bit_length()
+def grown(standing):
+    """What a storage is kept in has grown so far behind so many calls: a vector doubles, and so does a chunk."""
+    return min(standing, 8).bit_length()
 
 
 def kind_of(question, answer, size):
@@ -83,7 +83,7 @@ def picked(driver):
         for at, (line, answer) in enumerate(run):
             word = line.split()[1] if line.startswith("? ") else ""
             if word in (*PATTERNS, *ASKING, *SPARING, *VALUES, "left"):
-                kind = kind_of(line[2:], answer, grown(storage, standing))
+                kind = kind_of(line[2:], answer, grown(standing))
                 place = "values" if word in VALUES else storage
                 before = [command for command, _ in run[:at]]
                 found.setdefault((place, kind), Picked(place, kind[0], before, line[2:], answer))

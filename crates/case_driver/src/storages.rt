@@ -4,7 +4,7 @@ use crate::given::{Given, Over};
 use crate::run::run_lines;
 use crate::wrong::write_answer;
 use iceoryx2_journal::journal::Journal;
-use iceoryx2_large_table::kinds::Trees;
+use iceoryx2_large_table::kinds::Chunks;
 use iceoryx2_large_table::world::WorldOver;
 use iceoryx2_log::memory::{Batch, MemoryLog};
 use iceoryx2_table::own_parts::OwnParts;
@@ -20,7 +20,7 @@ use test_support::refusing::{Mode, Refused};
 /// The nodes of the journal's process.
 const OWN_NODES: [u64; 6] = [1, 2, 3, 4, 5, 6];
 
-/// Over a table of vectors or of trees.
+/// Over a table of vectors or of maps in chunks.
 fn over_table<W: OwnParts>(
     alloc: Global,
     given: &mut Given,
@@ -120,7 +120,7 @@ pub fn carry_out(
     take_over(alloc, &mut given, front, text)?;
     match given.over {
         Over::Table => over_table::<StoredWorld>(alloc, &mut given, lines, text)?,
-        Over::Large => over_table::<WorldOver<Trees>>(alloc, &mut given, lines, text)?,
+        Over::Large => over_table::<WorldOver<Chunks>>(alloc, &mut given, lines, text)?,
         Over::Plain => over_plain(alloc, &mut given, lines, text)?,
         Over::Journal | Over::Busy | Over::Full => {
             over_journal(alloc, &mut given, lines, text)?;

@@ -1,20 +1,26 @@
 //! The sorted vector as a finite map. Its place is where the key stands, or would stand.
 
-ghost use Rattle.std.specs.Prelude.{◌≡◌, ℕ, IfOk, OnOk, OnErr, OnSome, IfNone, IsSome, None};
+ghost use Rattle.std.specs.Prelude.{◌≡◌, drop};
+ghost use Rattle.std.specs.FinMap as map;
 ghost use Rattle.sorted_map.specs.Places.{place_in};
-ghost use Rattle.sorted_map.specs.Sorted.{map_of};
+ghost use Rattle.sorted_map.specs.Sorted.{map_of, HasRoom};
 
-use crate::{FiniteMap, Key, Visit};
+use crate::FiniteMap;
 use sorted_map::{Place, SortedVec};
 use std::alloc::{AllocError, Global};
-use std::mem;
 
-impl<K: Key, V: Drop> FiniteMap<K, V> for SortedVec<K, V> {
+impl<K: Ord + Copy + Drop, V: Drop> FiniteMap<K, V> for SortedVec<K, V> {
     type Place = Place;
+
+    type Cursor = usize;
 
     ghost seen = { λ R s. map_of R s };
 
     ghost stands_at = { λ R s k p. p ≡ place_in (map_of R s) k };
+
+    ghost has_room = { λ R s p. HasRoom R s };
+
+    ghost rest = { λ R s c. drop c (map.entries (map_of R s)) };
 
     fn new(alloc: Global) -> Self {
         SortedVec::new(alloc)
@@ -36,44 +42,29 @@ impl<K: Key, V: Drop> FiniteMap<K, V> for SortedVec<K, V> {
         self.get_mut_at(key, place)
     }
 
-    #[tactic(auto, using(sorted_map::proofs::Maps::map_of_written))]
-    fn insert_at(&mut self, key: K, place: Place, value: V) -> Result<Option<V>, AllocError> {
-        match self.get_mut_at(&key, place) {
-            Some(held) => return Ok(Some(mem::replace(held, value))),
-            None => {}
+    fn reserve_at(&mut self, key: &K, place: Place) -> Result<Place, AllocError> {
+        match self.reserve_at(key, place) {
+            Ok(()) => Ok(place),
+            Err(error) => Err(error),
         }
-        self.reserve()?;
-        self.insert_at(key, place, value);
-        Ok(None)
     }
 
-    #[tactic(auto, using(sorted_map::proofs::Maps::map_of_written))]
-    fn replace_at(&mut self, key: &K, place: Place, value: V) -> Option<V> {
-        match self.get_mut_at(key, place) {
-            Some(held) => Some(mem::replace(held, value)),
-            None => None,
-        }
+    fn insert_at(&mut self, key: K, place: Place, value: V) {
+        self.insert_at(key, place, value);
     }
 
     fn remove_at(&mut self, key: &K, place: Place) -> Option<V> {
         self.remove_at(key, place)
     }
 
-    fn clear(&mut self) {
-        self.clear();
+    fn first(&self) -> usize {
+        0
     }
 
-    fn walk<W: Visit<K, V>>(&self, visitor: &mut W) {
-        for entry in self.entries() {
-            visitor.visit(&entry.0, &entry.1);
+    fn next(&self, cursor: usize) -> Option<((&K, &V), usize)> {
+        match self.entries().get(cursor) {
+            Some(entry) => Some(((&entry.0, &entry.1), cursor + 1)),
+            None => None,
         }
-    }
-
-    fn entries(&self, alloc: Global) -> Result<Vec<(&K, &V)>, AllocError> {
-        let mut entries = Vec::new(alloc);
-        for entry in self.entries() {
-            entries.push((&entry.0, &entry.1))?;
-        }
-        Ok(entries)
     }
 }

@@ -1,3 +1,2 @@
-pub mod Admitted
-pub mod Counting
-pub mod Phases
+pub mod Found
+pub mod Walks

@@ -1,37 +1,58 @@
 //! What a table keeps its maps in.
 
-use crate::keys::{Seat, ServiceKey, TagKey};
+use crate::keys::{Seat, TagKey};
 use finite_map::FiniteMap;
+use finite_map::chunks::ChunkedMap;
+use iceoryx2_description::description::ServiceHash;
 use iceoryx2_table::rows::StoredRow;
 use iceoryx2_table::segments::StoredSegment;
 use iceoryx2_world::world::{Phase, Ticket};
-use std::alloc::Global;
-use std::collections::BTreeMap;
+use sorted_map::SortedVec;
 
 /// The kinds of a table's five maps.
 pub trait Kinds {
-    type Rows: FiniteMap<ServiceKey, StoredRow> + Drop;
+    /// Rows by hash.
+    type Rows: FiniteMap<ServiceHash, StoredRow> + Drop;
 
-    type Segments: FiniteMap<ServiceKey, StoredSegment> + Drop;
+    /// Segments by hash.
+    type Segments: FiniteMap<ServiceHash, StoredSegment> + Drop;
 
+    /// Phases by participant, nodes before peers, and then by hash. Who is absent is Idle.
     type Phases: FiniteMap<Seat, Phase> + Drop;
 
+    /// Tags by node and then by hash.
     type Tags: FiniteMap<TagKey, ()> + Drop;
 
+    /// Tickets by number.
     type Tickets: FiniteMap<u64, Ticket> + Drop;
 }
 
-/// Each map is a tree.
-pub struct Trees;
+/// Each map is a sorted vector.
+pub struct Vectors;
 
-impl Kinds for Trees {
-    type Rows = BTreeMap<ServiceKey, StoredRow, Global>;
+impl Kinds for Vectors {
+    type Rows = SortedVec<ServiceHash, StoredRow>;
 
-    type Segments = BTreeMap<ServiceKey, StoredSegment, Global>;
+    type Segments = SortedVec<ServiceHash, StoredSegment>;
 
-    type Phases = BTreeMap<Seat, Phase, Global>;
+    type Phases = SortedVec<Seat, Phase>;
 
-    type Tags = BTreeMap<TagKey, (), Global>;
+    type Tags = SortedVec<TagKey, ()>;
 
-    type Tickets = BTreeMap<u64, Ticket, Global>;
+    type Tickets = SortedVec<u64, Ticket>;
+}
+
+/// Each map keeps its entries in chunks.
+pub struct Chunks;
+
+impl Kinds for Chunks {
+    type Rows = ChunkedMap<ServiceHash, StoredRow>;
+
+    type Segments = ChunkedMap<ServiceHash, StoredSegment>;
+
+    type Phases = ChunkedMap<Seat, Phase>;
+
+    type Tags = ChunkedMap<TagKey, ()>;
+
+    type Tickets = ChunkedMap<u64, Ticket>;
 }

@@ -1,88 +1,200 @@
-//! One step of a participant, whatever it finds.
+//! What stands for the services, and the steps of one participant at one of them, whatever the maps are.
 
-ghost use Rattle.std.specs.Prelude.{◌≡◌, Ok, true};
+ghost use Rattle.std.specs.Prelude.{◌≡◌, ◌<◌, ◌+◌, None, IfOk, Ok, true, Option};
+ghost use Rattle.std.specs.FinMap as map;
+ghost use Rattle.std.specs.Option.{option_copied};
 ghost use Rattle.iceoryx2_description.specs.Description.{IsDescription};
+ghost use Rattle.iceoryx2_description.specs.declared.description.ServiceHash.{ServiceHash};
+ghost use Rattle.iceoryx2_world.specs.declared.world.Participant.{Participant};
+ghost use Rattle.iceoryx2_world.specs.World.{or_idle};
 ghost use Rattle.iceoryx2_world.specs.Acts as act;
-ghost use Rattle.iceoryx2_world.specs.Acts.{IsAct};
-ghost use Rattle.iceoryx2_world.specs.Batches.{act_of};
-ghost use Rattle.iceoryx2_table.specs.ServicesState.{MayTakeStep};
+ghost use Rattle.iceoryx2_world.specs.Steps.{last_number};
+ghost use Rattle.iceoryx2_world.specs.Access.{open_refusal};
+ghost use Rattle.iceoryx2_world.specs.Listing.{ListsAll};
+ghost use Rattle.iceoryx2_table.specs.ServicesState.{ServicesState, MayTakeStep, published_number, segment_fits};
+ghost use Rattle.iceoryx2_table.specs.Recorded.{MayRecordStep, RecordsLeave, RecordsStep};
 
-use crate::kinds::Kinds;
-use crate::services::Services;
+use iceoryx2_access::storage::{OpenSegmentError, Release};
 use iceoryx2_description::description::{ServiceHash, StaticConfig};
-use iceoryx2_table::rows::RowState;
-use iceoryx2_world::batches::Act;
-use iceoryx2_world::world::Participant;
-use std::alloc::AllocError;
+use iceoryx2_table::recorder::Recorder;
+use iceoryx2_table::rows::StoredRow;
+use iceoryx2_table::segments::StoredSegment;
+use iceoryx2_world::listing::Entry;
+use iceoryx2_world::world::{Participant, Phase};
+use std::alloc::{AllocError, Global};
 
-/// Each answers as the steps of [`Services`] do.
-impl<M: Kinds> Services<M> {
-    /// The step that the act says.
-    pub fn take(
+/// Where a participant's phase stands, or would stand, and the phase.
+#[derive(Clone, Copy)]
+pub struct Position<P: Copy> {
+    pub place: P,
+    pub phase: Phase,
+}
+
+/// The rows, the segments, the phases and the counter.
+///
+/// Each step answers true where it was allowed and has had its effect, and false where it is forbidden, and then
+/// nothing has changed. `AllocError` comes only where it was allowed and found no memory, and nothing has changed then
+/// either. Each step but a read is written down by a `Recorder`, once, after its tests and what it asks of memory and
+/// before its change. Where the recorder refuses, the step answers as where it is forbidden. A place that was found is
+/// handed on as long as nothing changes.
+pub trait Steps: Sized {
+    /// Where a row stands, or would stand.
+    type RowPlace: Copy;
+
+    /// Where a segment stands, or would stand.
+    type SegmentPlace: Copy;
+
+    /// Where a phase stands, or would stand.
+    type PhasePlace: Copy;
+
+    /// What stands for the services.
+    ghost state: { Self → ServicesState };
+
+    /// It is the place of the service's row.
+    ghost has_row: { Self → ServiceHash → Self.RowPlace → Type 0 };
+
+    /// It is the place of the service's segment.
+    ghost has_segment: { Self → ServiceHash → Self.SegmentPlace → Type 0 };
+
+    /// It is the place of the participant's phase at the service.
+    ghost has_phase: { Self → Participant × ServiceHash → Self.PhasePlace → Type 0 };
+
+    /// Nothing yet, with the counter's first value. Takes no memory.
+    fn starting_at(alloc: Global, counter: u64) -> Self
+        ensures { state result
+            ≡ (record { rows = map.empty; segments = map.empty; phases = map.empty; counter = counter }) };
+
+    /// Each hash with a row or a segment, in ascending order.
+    fn list(&self) -> Result<Vec<Entry>, AllocError>
+        ensures { IfOk result (λ entries. ListsAll (state self.now).rows (state self.now).segments entries.items) };
+
+    /// The next number.
+    fn counter(&self) -> u64
+        ensures { result ≡ (state self.now).counter };
+
+    /// Hands out the next number.
+    fn next_number(&mut self) -> u64
+        requires { (state self.old).counter < last_number }
+        ensures number { result ≡ (state self.old).counter }
+        ensures effect { state self.new ≡ record (state self.old) { counter = (state self.old).counter + 1 } };
+
+    /// Where the row stands, or would stand.
+    fn row_place(&self, hash: &ServiceHash) -> Self::RowPlace
+        ensures { has_row self.now hash.now result };
+
+    /// The row at its place.
+    fn row_at(&self, hash: &ServiceHash, place: Self::RowPlace) -> Option<&StoredRow>
+        requires { has_row self.now hash.now place }
+        ensures { option_copied result ≡ map.get (state self.now).rows hash.now };
+
+    /// Where the segment stands, or would stand.
+    fn segment_place(&self, hash: &ServiceHash) -> Self::SegmentPlace
+        ensures { has_segment self.now hash.now result };
+
+    /// The segment at its place.
+    fn segment_at(&self, hash: &ServiceHash, place: Self::SegmentPlace) -> Option<&StoredSegment>
+        requires { has_segment self.now hash.now place }
+        ensures { option_copied result ≡ map.get (state self.now).segments hash.now };
+
+    /// Where the participant is with the service. Who is not kept is Idle.
+    fn position(&self, participant: Participant, hash: &ServiceHash) -> Position<Self::PhasePlace>
+        ensures place { has_phase self.now (participant, hash.now) result.place }
+        ensures phase { result.phase ≡ or_idle (map.get (state self.now).phases (participant, hash.now)) };
+
+    /// Reads what is published under the number.
+    fn read(
         &mut self,
         participant: Participant,
         hash: &ServiceHash,
-        act: &Act,
+        number: u64,
     ) -> Result<bool, AllocError>
-        ensures effect { MayTakeStep self.old participant hash.now (act_of act.now) result self.new }
-        ensures limits { result ≡ Ok true → IsAct (act_of act.now) }
-    {
-        match act {
-            Act::Read => self.take_read(participant, hash),
-            Act::Lock => self.take_lock(participant, hash),
-            Act::RemoveSegment => Ok(self.remove_segment(participant, hash)),
-            Act::RemoveDescription => Ok(self.remove_description(participant, hash)),
-            Act::Make { max_nodes } => self.make(participant, hash, *max_nodes),
-            Act::Publish(description) => self.take_publish(participant, hash, description),
-            Act::Join => self.join(participant, hash),
-            Act::Leave => Ok(self.leave(participant, hash).is_some()),
-        }
-    }
+        requires { published_number (map.get (state self.old).rows hash.now) ≡ Some number }
+        ensures { MayTakeStep (state self.old) participant hash.now act.Read result (state self.new) };
 
-    // Reads what is there, where it is published.
-    fn take_read(
+    /// Locks what has no row, whose place was found.
+    fn lock<R: Recorder>(
         &mut self,
+        recorder: &mut R,
         participant: Participant,
         hash: &ServiceHash,
+        row: Self::RowPlace,
     ) -> Result<bool, AllocError>
-        ensures { MayTakeStep self.old participant hash.now act.Read result self.new }
-    {
-        let Some(row) = self.row(hash) else {
-            return Ok(false);
-        };
-        let RowState::Published(number) = row.state() else {
-            return Ok(false);
-        };
-        self.read(participant, hash, number)
-    }
+        requires row { has_row self.old hash.now row }
+        requires absent { map.get (state self.old).rows hash.now ≡ None }
+        ensures { MayRecordStep R.written R.refused (state self.old) participant hash.now act.Lock result
+            (state self.new) recorder.old recorder.new };
 
-    // Locks what has no row.
-    fn take_lock(
+    /// Takes the segment away. Takes no memory.
+    fn remove_segment<R: Recorder>(
         &mut self,
+        recorder: &mut R,
         participant: Participant,
         hash: &ServiceHash,
-    ) -> Result<bool, AllocError>
-        ensures { MayTakeStep self.old participant hash.now act.Lock result self.new }
-    {
-        if self.row(hash).is_some() {
-            return Ok(false);
-        }
-        self.lock(participant, hash)
-    }
+    ) -> bool
+        ensures { RecordsStep R.written R.refused (state self.old) participant hash.now act.RemoveSegment result
+            (state self.new) recorder.old recorder.new };
 
-    // Publishes what fits the segment.
-    fn take_publish(
+    /// Takes the row away, whatever the segment. Takes no memory.
+    fn remove_description<R: Recorder>(
         &mut self,
+        recorder: &mut R,
+        participant: Participant,
+        hash: &ServiceHash,
+    ) -> bool
+        ensures { RecordsStep R.written R.refused (state self.old) participant hash.now act.RemoveDescription result
+            (state self.new) recorder.old recorder.new };
+
+    /// Makes a segment for so many nodes, where the phase and the segment stand or would stand.
+    fn make<R: Recorder>(
+        &mut self,
+        recorder: &mut R,
+        participant: Participant,
+        hash: &ServiceHash,
+        max_nodes: u64,
+        place: Self::PhasePlace,
+        segment: Self::SegmentPlace,
+    ) -> Result<bool, AllocError>
+        requires place { has_phase self.old (participant, hash.now) place }
+        requires segment { has_segment self.old hash.now segment }
+        ensures { MayRecordStep R.written R.refused (state self.old) participant hash.now (act.Make max_nodes) result
+            (state self.new) recorder.old recorder.new };
+
+    /// Publishes a description that fits the segment, where the phase stands.
+    fn publish<R: Recorder>(
+        &mut self,
+        recorder: &mut R,
         participant: Participant,
         hash: &ServiceHash,
         description: &StaticConfig,
+        place: Self::PhasePlace,
     ) -> Result<bool, AllocError>
-        ensures effect { MayTakeStep self.old participant hash.now (act.Publish description.now) result self.new }
-        ensures limits { result ≡ Ok true → IsDescription description.now }
-    {
-        if !self.has_segment_for(hash, description) {
-            return Ok(false);
-        }
-        self.publish(participant, hash, description)
-    }
+        requires place { has_phase self.old (participant, hash.now) place }
+        requires fits { segment_fits hash.now (map.get (state self.old).segments hash.now) description.now ≡ true }
+        ensures effect { MayRecordStep R.written R.refused (state self.old) participant hash.now
+            (act.Publish description.now) result (state self.new) recorder.old recorder.new }
+        ensures limits { result ≡ Ok true → IsDescription description.now };
+
+    /// Registers the participant once more, where the phase and the segment stand.
+    fn join<R: Recorder>(
+        &mut self,
+        recorder: &mut R,
+        participant: Participant,
+        hash: &ServiceHash,
+        place: Self::PhasePlace,
+        segment: Self::SegmentPlace,
+    ) -> Result<bool, AllocError>
+        requires place { has_phase self.old (participant, hash.now) place }
+        requires segment { has_segment self.old hash.now segment }
+        ensures { MayRecordStep R.written R.refused (state self.old) participant hash.now act.Join result
+            (state self.new) recorder.old recorder.new };
+
+    /// Leaves once, and tells what is left, or `None` where it is forbidden. Takes no memory.
+    fn leave<R: Recorder>(
+        &mut self,
+        recorder: &mut R,
+        participant: Participant,
+        hash: &ServiceHash,
+    ) -> Option<Release>
+        ensures { RecordsLeave R.written R.refused (state self.old) participant hash.now result (state self.new)
+            recorder.old recorder.new };
 }

@@ -1,30 +1,41 @@
-//! What a table keeps of all nodes, and the own part of each access of one.
+//! What a table keeps of all nodes, the own part of each access of one, and what writes it down.
 
+ghost use Rattle.std.specs.Prelude.{◌≡◌, filter, length};
+ghost use Rattle.std.specs.FinMap as map;
+ghost use Rattle.std.specs.Ordering.{nat_cmp};
+ghost use Rattle.iceoryx2_access.specs.Letter as letter;
 ghost use Rattle.iceoryx2_world.specs.Batches.{IsPeerStep};
-ghost use Rattle.iceoryx2_world.specs.World.{World};
+ghost use Rattle.iceoryx2_world.specs.World.{belongs};
+ghost use Rattle.iceoryx2_table.specs.Recorded.{IsRecordedPart};
 
-use crate::counter::TicketCounter;
+mod unrecorded;
+
 use crate::keys::TagKey;
 use crate::kinds::Kinds;
 use crate::services::Services;
-use finite_map::{FiniteMap, put_back};
+use crate::steps::Steps;
+use crate::taking::{has_segment_for, open_refusal, take};
+use finite_map::FiniteMap;
 use iceoryx2_access::storage::{
-    Existence, FetchError, LockError, MakeSegmentError, OpenSegmentError, PublishError, Release,
-    ReleaseError, RemoveError, Tag, TagError,
+    LockError, MakeSegmentError, OpenSegmentError, PublishError, Release, ReleaseError,
+    RemoveError, Tag, TagError,
 };
 use iceoryx2_description::description::{ServiceHash, StaticConfig};
-use iceoryx2_table::own_parts::OwnParts;
+use iceoryx2_table::recorder::Recorder;
 use iceoryx2_table::rows::RowState;
 use iceoryx2_table::table::stored::{count_after, has_made, is_held, may_make, ticket_for};
 use iceoryx2_world::batches::Step;
-use iceoryx2_world::listing::Entry;
-use iceoryx2_world::world::{Participant, Phase};
+use iceoryx2_world::world::{Participant, Ticket};
 use std::alloc::{AllocError, Global};
 use std::marker::Model;
 
 /// The services, the tags and the tickets.
 ///
-/// An access that is refused, or that finds no memory, changes nothing.
+/// Nine of a node's accesses change what others may have to know, and take a `Recorder`. One that is granted and
+/// changes something asks it once, after all tests and all that it asks of memory, and before the first change,
+/// which can't fail then. One that is refused, finds no memory or changes nothing doesn't ask. Where the recorder
+/// refuses, the access answers its general fault, which each of them names, and nothing has changed. With
+/// `Unrecorded` each is the node's own part alone.
 #[derive(Drop)]
 pub struct WorldOver<M: Kinds> {
     services: Services<M>,
@@ -34,16 +45,39 @@ pub struct WorldOver<M: Kinds> {
 
 impl<M: Kinds> Model for WorldOver<M> {
     ghost use Rattle.std.specs.Ordering.{nat_cmp};
-    ghost use Rattle.iceoryx2_world.specs.Orders.{tag_cmp};
+    ghost use Rattle.iceoryx2_world.specs.Orders.{hash_cmp, place_cmp, tag_cmp};
     ghost use Rattle.iceoryx2_world.specs.World.{World};
     ghost use Rattle.iceoryx2_world.specs.Codes.{coded_world};
-    ghost use Rattle.iceoryx2_table.specs.ServicesState.{world_with};
 
     ghost Value = { World };
 
     ghost coded = { coded_world };
 
-    ghost view = { λ t. world_with t.services (M.Tags.seen tag_cmp t.tags) (M.Tickets.seen nat_cmp t.tickets) };
+    ghost view = { λ t. record {
+      rows = M.Rows.seen hash_cmp t.services.rows;
+      segments = M.Segments.seen hash_cmp t.services.segments;
+      phases = M.Phases.seen place_cmp t.services.phases;
+      tags = M.Tags.seen tag_cmp t.tags;
+      tickets = M.Tickets.seen nat_cmp t.tickets;
+      counter = t.services.counter;
+    } };
+}
+
+// How many of the tickets are this node's for this service.
+fn count_held<T: FiniteMap<u64, Ticket>>(tickets: &T, node: u64, hash: &ServiceHash) -> u64
+    ensures { result ≡ length (filter (belongs node hash.now) (map.entries (T.seen nat_cmp tickets.now))) }
+{
+    let _most = tickets.len();
+    let mut count = 0;
+    let mut cursor = tickets.first();
+    while let Some(found) = tickets.next(cursor) {
+        let ticket = found.0.1;
+        if ticket.node == node && ticket.hash.cmp(hash).is_eq() {
+            count += 1;
+        }
+        cursor = found.1;
+    }
+    count
 }
 
 impl<M: Kinds> WorldOver<M> {
@@ -51,125 +85,80 @@ impl<M: Kinds> WorldOver<M> {
     fn take(&mut self, step: &Step, skipped: u64) -> u64
         ensures { IsPeerStep (self.old, skipped) step.now (self.new, result) }
     {
-        let taken = self
-            .services
-            .take(Participant::Peer(step.peer), &step.hash, &step.act);
+        let peer = Participant::Peer(step.peer);
+        let taken = take(&mut self.services, peer, &step.hash, &step.act);
         count_after(taken, skipped)
     }
-}
 
-impl<M: Kinds> OwnParts for WorldOver<M> {
-    ghost world = { λ kept. kept };
-
-    fn starting_at(alloc: Global, counter: u64) -> Self {
-        WorldOver {
-            services: Services::starting_at(alloc, counter),
-            tags: M::Tags::new(alloc),
-            tickets: M::Tickets::new(alloc),
-        }
-    }
-
-    fn let_go(self) {
-        let _kept = self;
-    }
-
-    fn take_all(&mut self, batch: &[Step], skipped: u64) -> u64 {
-        let mut count = skipped;
-        for step in batch {
-            count = self.take(step, count);
-        }
-        count
-    }
-
-    fn list(&self) -> Result<Vec<Entry>, AllocError> {
-        self.services.list()
-    }
-
-    fn has_tag(&self, node: u64, hash: &ServiceHash) -> bool {
-        let key = TagKey::new(node, hash);
+    /// `Found` where the node's tag is there, else `Made`. `OutOfMemory`, and `Fault` where the recorder refuses.
+    pub fn make_tag<R: Recorder>(
+        &mut self,
+        recorder: &mut R,
+        node: u64,
+        hash: &ServiceHash,
+    ) -> Result<Tag, TagError>
+        ensures { IsRecordedPart R.written R.refused self.old (letter.MakeTag node hash.now result) self.new
+            recorder.old recorder.new }
+    {
+        let key = TagKey { node, hash: *hash };
         let place = self.tags.place_of(&key);
-        match self.tags.get_at(&key, place) {
-            Some(_) => true,
-            None => false,
-        }
-    }
-
-    fn tickets(&self, node: u64, hash: &ServiceHash) -> u64 {
-        let _few = self.tickets.len();
-        let mut counter = TicketCounter {
-            node,
-            hash: *hash,
-            count: 0,
-        };
-        self.tickets.walk(&mut counter);
-        counter.count
-    }
-
-    fn counter(&self) -> u64 {
-        self.services.counter()
-    }
-
-    fn exists(&self, hash: &ServiceHash) -> Existence {
-        match self.services.row(hash) {
-            None => Existence::No,
-            Some(row) => match row.state() {
-                RowState::Locked(_) => Existence::BeingSetUp,
-                RowState::Published(_) => Existence::Yes,
-            },
-        }
-    }
-
-    fn fetch(&mut self, node: u64, hash: &ServiceHash) -> Result<(u64, Vec<u8>), FetchError> {
-        let Some(row) = self.services.row(hash) else {
-            return Err(FetchError::DoesNotExist);
-        };
-        let RowState::Published(number) = row.state() else {
-            return Err(FetchError::NotFinalized);
-        };
-        let Ok(copy) = row.bytes().copy() else {
-            return Err(FetchError::OutOfMemory);
-        };
-        let Ok(_) = self.services.read(Participant::Node(node), hash, number) else {
-            return Err(FetchError::OutOfMemory);
-        };
-        Ok((number, copy))
-    }
-
-    fn counts(&self, node: u64, hash: &ServiceHash) -> bool {
-        match self.services.phase(Participant::Node(node), hash) {
-            Phase::Joined(_, _) => true,
-            _ => false,
-        }
-    }
-
-    fn make_tag(&mut self, node: u64, hash: &ServiceHash) -> Result<Tag, TagError> {
-        if self.has_tag(node, hash) {
+        if self.tags.get_at(&key, place).is_some() {
             return Ok(Tag::Found);
         }
-        let key = TagKey::new(node, hash);
-        let place = self.tags.place_of(&key);
-        let Ok(_) = self.tags.insert_at(key, place, ()) else {
+        let Ok(place) = self.tags.reserve_at(&key, place) else {
             return Err(TagError::OutOfMemory);
         };
+        let Ok(_) = recorder.write_down() else {
+            return Err(TagError::Fault);
+        };
+        self.tags.insert_at(key, place, ());
         Ok(Tag::Made)
     }
 
-    fn remove_tag(&mut self, node: u64, hash: &ServiceHash) -> Result<(), RemoveError> {
-        let key = TagKey::new(node, hash);
+    /// The node's tag isn't there any more. `Other` where the recorder refuses.
+    pub fn remove_tag<R: Recorder>(
+        &mut self,
+        recorder: &mut R,
+        node: u64,
+        hash: &ServiceHash,
+    ) -> Result<(), RemoveError>
+        ensures { IsRecordedPart R.written R.refused self.old (letter.RemoveTag node hash.now result) self.new
+            recorder.old recorder.new }
+    {
+        let key = TagKey { node, hash: *hash };
         let place = self.tags.place_of(&key);
+        if self.tags.get_at(&key, place).is_none() {
+            return Ok(());
+        }
+        let Ok(_) = recorder.write_down() else {
+            return Err(RemoveError::Other);
+        };
         let _ = self.tags.remove_at(&key, place);
         Ok(())
     }
 
-    fn lock(&mut self, node: u64, hash: &ServiceHash) -> Result<u64, LockError> {
-        if let Some(standing) = self.services.row(hash) {
+    /// The node holds the service's lock, whose number is the counter before. `Creation` while another holds it,
+    /// `AlreadyExists` where it is published, `OutOfMemory`, and `Other` where no number is left, where the node holds
+    /// something there, and where the recorder refuses.
+    pub fn lock<R: Recorder>(
+        &mut self,
+        recorder: &mut R,
+        node: u64,
+        hash: &ServiceHash,
+    ) -> Result<u64, LockError>
+        ensures { IsRecordedPart R.written R.refused self.old (letter.Lock node hash.now result) self.new
+            recorder.old recorder.new }
+    {
+        let row = self.services.row_place(hash);
+        if let Some(standing) = self.services.row_at(hash, row) {
             match standing.state() {
                 RowState::Locked(_) => return Err(LockError::Creation),
                 RowState::Published(_) => return Err(LockError::AlreadyExists),
             }
         }
         let number = self.services.counter();
-        let Ok(locked) = self.services.lock(Participant::Node(node), hash) else {
+        let participant = Participant::Node(node);
+        let Ok(locked) = self.services.lock(recorder, participant, hash, row) else {
             return Err(LockError::OutOfMemory);
         };
         if !locked {
@@ -178,21 +167,37 @@ impl<M: Kinds> OwnParts for WorldOver<M> {
         Ok(number)
     }
 
-    fn make_segment(
+    /// There is a segment for so many nodes, and the node is in it. `AlreadyExists`, `OutOfMemory`, and `Other`
+    /// where the node doesn't hold the lock of that number, for no nodes, and where the recorder refuses.
+    pub fn make_segment<R: Recorder>(
         &mut self,
+        recorder: &mut R,
         node: u64,
         hash: &ServiceHash,
         number: u64,
         max_nodes: u64,
-    ) -> Result<(), MakeSegmentError> {
+    ) -> Result<(), MakeSegmentError>
+        ensures { IsRecordedPart R.written R.refused self.old (letter.MakeSegment node hash.now number max_nodes result)
+            self.new recorder.old recorder.new }
+    {
         let participant = Participant::Node(node);
-        if !may_make(self.services.phase(participant, hash), number, max_nodes) {
+        let position = self.services.position(participant, hash);
+        if !may_make(position.phase, number, max_nodes) {
             return Err(MakeSegmentError::Other);
         }
-        if self.services.segment(hash).is_some() {
+        let segment = self.services.segment_place(hash);
+        if self.services.segment_at(hash, segment).is_some() {
             return Err(MakeSegmentError::AlreadyExists);
         }
-        let Ok(made) = self.services.make(participant, hash, max_nodes) else {
+        let Ok(made) = self.services.make(
+            recorder,
+            participant,
+            hash,
+            max_nodes,
+            position.place,
+            segment,
+        )
+        else {
             return Err(MakeSegmentError::OutOfMemory);
         };
         if !made {
@@ -201,94 +206,145 @@ impl<M: Kinds> OwnParts for WorldOver<M> {
         Ok(())
     }
 
-    fn remove_segment(&mut self, node: u64, hash: &ServiceHash) -> Result<(), RemoveError> {
-        if self.services.remove_segment(Participant::Node(node), hash) {
+    /// The segment isn't there any more. `Other` where the node may not take it away, and where the recorder refuses.
+    pub fn remove_segment<R: Recorder>(
+        &mut self,
+        recorder: &mut R,
+        node: u64,
+        hash: &ServiceHash,
+    ) -> Result<(), RemoveError>
+        ensures { IsRecordedPart R.written R.refused self.old (letter.RemoveSegment node hash.now result) self.new
+            recorder.old recorder.new }
+    {
+        let participant = Participant::Node(node);
+        if self.services.remove_segment(recorder, participant, hash) {
             return Ok(());
         }
         Err(RemoveError::Other)
     }
 
-    fn remove_description(&mut self, node: u64, hash: &ServiceHash) -> Result<(), RemoveError> {
+    /// Nothing is written under the hash any more. `Other` where the node may not take it away, and where the recorder
+    /// refuses.
+    pub fn remove_description<R: Recorder>(
+        &mut self,
+        recorder: &mut R,
+        node: u64,
+        hash: &ServiceHash,
+    ) -> Result<(), RemoveError>
+        ensures { IsRecordedPart R.written R.refused self.old (letter.RemoveDescription node hash.now result) self.new
+            recorder.old recorder.new }
+    {
+        let participant = Participant::Node(node);
         if self
             .services
-            .remove_description(Participant::Node(node), hash)
+            .remove_description(recorder, participant, hash)
         {
             return Ok(());
         }
         Err(RemoveError::Other)
     }
 
-    fn publish(
+    /// The description is published under the number, which is the ticket of the node, registered then.
+    /// `OutOfMemory`, and `Other` where the node hasn't made a segment of that number which the description fits,
+    /// and where the recorder refuses.
+    pub fn publish<R: Recorder>(
         &mut self,
+        recorder: &mut R,
         node: u64,
         hash: &ServiceHash,
         number: u64,
         description: &StaticConfig,
-    ) -> Result<u64, PublishError> {
+    ) -> Result<u64, PublishError>
+        ensures { IsRecordedPart R.written R.refused self.old
+            (letter.Publish node hash.now number description.now result) self.new recorder.old recorder.new }
+    {
         let participant = Participant::Node(node);
-        if !has_made(self.services.phase(participant, hash), number) {
+        let position = self.services.position(participant, hash);
+        if !has_made(position.phase, number) {
             return Err(PublishError::Other);
         }
-        if !self.services.has_segment_for(hash, description) {
+        if !has_segment_for(&self.services, hash, description) {
             return Err(PublishError::Other);
         }
         let ticket = number;
         let place = self.tickets.place_of(&ticket);
-        let held = ticket_for(node, hash, number);
-        let Ok(had) = self.tickets.insert_at(ticket, place, held) else {
+        let Ok(place) = self.tickets.reserve_at(&ticket, place) else {
             return Err(PublishError::OutOfMemory);
         };
-        let Ok(published) = self.services.publish(participant, hash, description) else {
-            put_back(&mut self.tickets, &ticket, had);
+        let Ok(published) = self
+            .services
+            .publish(recorder, participant, hash, description, position.place)
+        else {
             return Err(PublishError::OutOfMemory);
         };
         if !published {
-            put_back(&mut self.tickets, &ticket, had);
             return Err(PublishError::Other);
         }
+        let held = ticket_for(node, hash, number);
+        self.tickets.insert_at(ticket, place, held);
         Ok(ticket)
     }
 
-    fn open_segment(
+    /// The node is registered in the segment of that number, and has a ticket, which is the counter before.
+    /// `DoesNotExist`, `Marked` where all have left, `Full`, `OutOfNumbers`, `OutOfMemory`, and `Failed` where the
+    /// segment or what the node has read has another number, where the node can't join, and where the recorder
+    /// refuses.
+    pub fn open_segment<R: Recorder>(
         &mut self,
+        recorder: &mut R,
         node: u64,
         hash: &ServiceHash,
         number: u64,
-    ) -> Result<u64, OpenSegmentError> {
+    ) -> Result<u64, OpenSegmentError>
+        ensures { IsRecordedPart R.written R.refused self.old (letter.OpenSegment node hash.now number result) self.new
+            recorder.old recorder.new }
+    {
         let participant = Participant::Node(node);
-        let phase = self.services.phase(participant, hash);
-        if let Some(refusal) = self.services.open_refusal(hash, number, phase) {
+        let segment = self.services.segment_place(hash);
+        let position = self.services.position(participant, hash);
+        if let Some(refusal) = open_refusal(&self.services, hash, segment, number, position.phase) {
             return Err(refusal);
         }
         let ticket = self.services.counter();
         let place = self.tickets.place_of(&ticket);
-        let held = ticket_for(node, hash, number);
-        let Ok(had) = self.tickets.insert_at(ticket, place, held) else {
+        let Ok(place) = self.tickets.reserve_at(&ticket, place) else {
             return Err(OpenSegmentError::OutOfMemory);
         };
-        let Ok(joined) = self.services.join(participant, hash) else {
-            put_back(&mut self.tickets, &ticket, had);
+        let Ok(joined) = self
+            .services
+            .join(recorder, participant, hash, position.place, segment)
+        else {
             return Err(OpenSegmentError::OutOfMemory);
         };
         if !joined {
-            put_back(&mut self.tickets, &ticket, had);
             return Err(OpenSegmentError::Failed);
         }
-        Ok(self.services.next_number())
+        let _handed_out = self.services.next_number();
+        let held = ticket_for(node, hash, number);
+        self.tickets.insert_at(ticket, place, held);
+        Ok(ticket)
     }
 
-    fn release(
+    /// The ticket isn't there any more: `StillCounted` where the node has others, `Left`, and `Last` where nobody
+    /// stays, whose segment is marked then, with the same entry. `NoSuchTicket` where the node has no such ticket
+    /// for the service and number, and where the recorder refuses.
+    pub fn release<R: Recorder>(
         &mut self,
+        recorder: &mut R,
         ticket: u64,
         node: u64,
         hash: &ServiceHash,
         number: u64,
-    ) -> Result<Release, ReleaseError> {
+    ) -> Result<Release, ReleaseError>
+        ensures { IsRecordedPart R.written R.refused self.old (letter.Release ticket node hash.now number result)
+            self.new recorder.old recorder.new }
+    {
         let place = self.tickets.place_of(&ticket);
         if !is_held(self.tickets.get_at(&ticket, place), node, hash, number) {
             return Err(ReleaseError::NoSuchTicket);
         }
-        let Some(release) = self.services.leave(Participant::Node(node), hash) else {
+        let participant = Participant::Node(node);
+        let Some(release) = self.services.leave(recorder, participant, hash) else {
             return Err(ReleaseError::NoSuchTicket);
         };
         let _ = self.tickets.remove_at(&ticket, place);

@@ -1,9 +1,10 @@
 //! A table within one process and one for many services, what their readers answer, the steps of others that may
 //! wait at them, and services that stand in them.
 
-pub use finite_map::{FiniteMap, Key, Visit};
-pub use iceoryx2_large_table::keys::{Seat, ServiceKey, TagKey};
-pub use iceoryx2_large_table::kinds::{Kinds, Trees};
+pub use finite_map::FiniteMap;
+pub use finite_map::chunks::ChunkedMap;
+pub use iceoryx2_large_table::keys::{Seat, TagKey};
+pub use iceoryx2_large_table::kinds::{Chunks, Kinds, Vectors};
 pub use iceoryx2_large_table::local::ManyLocal;
 pub use iceoryx2_large_table::table::LargeTable;
 pub use iceoryx2_large_table::world::WorldOver;

@@ -5,7 +5,7 @@
 //! world, and makes the accesses of its calls alone (`sessions`). The paths by which users name what the layer has
 //! (`paths`).
 //!
-//! Tables in sorted vectors, in trees and in plain form answer alike (`tables`): after batches of steps of which each is
+//! Tables in sorted vectors, in chunks and in plain form answer alike (`tables`): after batches of steps of which each is
 //! drawn by chance, and in 2,000 schedules of commands and peers' steps drawn by chance (`drawn`), where the reply, the
 //! listing, the counter, the skipped steps and the waiting batches are the same after each command.
 //!

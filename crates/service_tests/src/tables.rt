@@ -1,4 +1,4 @@
-//! Tables in sorted vectors, in trees and in plain form, which answer alike.
+//! Tables in sorted vectors, in chunks and in plain form, which answer alike.
 
 mod plain_session;
 mod schedules;

@@ -1,4 +1,4 @@
-//! The bodies of a table by one trait: the one in sorted vectors and the one in trees here, and the plain one in `plain`.
+//! The bodies of a table by one trait: the one in sorted vectors and the one in chunks here, and the plain one in `plain`.
 
 use iceoryx2_access::storage::Service;
 use iceoryx2_description::description::ServiceHash;

@@ -2,7 +2,7 @@
 //! Nothing of it is expected of the layer by itself: the tests have what they want.
 //!
 //! The third table is one in its plain form, written from the rules alone (`plain`, `standing`), beside those in sorted
-//! vectors and in trees by one trait (`body`), with commands over any storage (`places`). How requests for memory come to
+//! vectors and in chunks by one trait (`body`), with commands over any storage (`places`). How requests for memory come to
 //! be refused is told in `refusing`.
 #![tactic(auto)]
 

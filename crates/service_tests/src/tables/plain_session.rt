@@ -1,4 +1,4 @@
-//! Commands over a table of each body: over the one in sorted vectors and the one in trees by the session itself,
+//! Commands over a table of each body: over the one in sorted vectors and the one in chunks by the session itself,
 //! and over the plain one by places that are written from the terms of its commands.
 
 use iceoryx2_commands::command::{Command, Reply, SLOTS};

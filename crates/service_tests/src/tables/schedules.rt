@@ -85,7 +85,7 @@ fn compare(
     rt: &impl Abort,
     alloc: Global,
     place: (u64, u64),
-    (in_vectors, in_trees, in_plain): (
+    (in_vectors, in_chunks, in_plain): (
         &mut <Local as Commanded>::Commands,
         &mut <ManyLocal as Commanded>::Commands,
         &mut <Plain as Commanded>::Commands,
@@ -97,7 +97,7 @@ fn compare(
     let found = seen::<Local>(rt, in_vectors, command);
     count(tally, pattern, &found.0);
     let wanted = seen::<Plain>(rt, in_plain, drawn_command(rt, alloc, &mut again).0);
-    let also = seen::<ManyLocal>(rt, in_trees, drawn_command(rt, alloc, &mut once_more).0);
+    let also = seen::<ManyLocal>(rt, in_chunks, drawn_command(rt, alloc, &mut once_more).0);
     assert_same(rt, (place, &also), (place, &wanted));
     assert_same(rt, (place, found), (place, wanted));
 }
@@ -106,19 +106,19 @@ fn compare(
 fn compare_all(rt: &impl Abort, forms: &Forms, schedule: u64, tally: &mut Tally) {
     let (mut seed, mut once_more, mut again) = (schedule, schedule, schedule);
     let mut in_vectors = started::<Local>(rt, forms, &mut seed);
-    let mut in_trees = started::<ManyLocal>(rt, forms, &mut once_more);
+    let mut in_chunks = started::<ManyLocal>(rt, forms, &mut once_more);
     let mut in_plain = started::<Plain>(rt, forms, &mut again);
     for command in 0..COMMANDS {
         compare(
             rt,
             forms.alloc,
             (schedule, command),
-            (&mut in_vectors, &mut in_trees, &mut in_plain),
+            (&mut in_vectors, &mut in_chunks, &mut in_plain),
             (&mut seed, tally),
         );
     }
     let wanted = finished::<Plain>(rt, in_plain);
-    let also = finished::<ManyLocal>(rt, in_trees);
+    let also = finished::<ManyLocal>(rt, in_chunks);
     assert_same(rt, &also, &wanted);
     assert_same(rt, finished::<Local>(rt, in_vectors), wanted);
 }

@@ -71,20 +71,20 @@ fn found_also(found: Found, listing: &[Entry]) -> Found {
 fn compared(rt: &impl Abort, forms: &Forms, subject: Subject, mut seed: u64) -> Found {
     let alloc = forms.alloc;
     let mut in_vectors = Local::new(alloc);
-    let mut in_trees = ManyLocal::new(alloc);
+    let mut in_chunks = ManyLocal::new(alloc);
     let mut in_plain = Plain::new(alloc);
     let mut found = (false, false);
     for row in 0..BATCHES {
         let (wanted, next) = ran::<Plain>(rt, forms, subject, &mut in_plain, seed);
         let (vectors, _) = ran::<Local>(rt, forms, subject, &mut in_vectors, seed);
-        let (trees, _) = ran::<ManyLocal>(rt, forms, subject, &mut in_trees, seed);
+        let (chunks, _) = ran::<ManyLocal>(rt, forms, subject, &mut in_chunks, seed);
         assert_same(rt, (row, &vectors), (row, &wanted));
-        assert_same(rt, (row, &trees), (row, &wanted));
+        assert_same(rt, (row, &chunks), (row, &wanted));
         found = found_also(found, &wanted.1);
         seed = next;
     }
     Local::let_go(in_vectors);
-    ManyLocal::let_go(in_trees);
+    ManyLocal::let_go(in_chunks);
     found
 }
 

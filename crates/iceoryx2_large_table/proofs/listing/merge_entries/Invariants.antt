@@ -1,14 +1,14 @@
-use Rattle.std.proofs.Common.{◌≡◌, ◌+◌, ◌-◌, ◌≤◌, ◌++◌, length, drop}
-use Rattle.finite_map.specs.Maps.{pointed}
+use Rattle.std.proofs.Common.{◌≡◌, ◌+◌, ◌++◌, length}
+use Rattle.std.specs.FinMap as map
+use Rattle.iceoryx2_world.specs.Orders.{hash_cmp}
 use Rattle.iceoryx2_table.specs.Merge.{merge}
 use Rattle.iceoryx2_large_table.proofs.listing.merge_entries.Given as goal
 
-abbrev pub invariant-loop-row : goal.invariant-loop-row
-invariant-loop-row l = record {
-  same : l.entries.items ++ merge (drop l.row (pointed l.rows)) (drop l.segment (pointed l.segments)) ≡ merge (pointed l.rows) (pointed l.segments);
-  row_in_range : l.row ≤ length l.rows;
-  segment_in_range : l.segment ≤ length l.segments;
-}
+abbrev pub invariant-loop-entries : goal.invariant-loop-entries
+invariant-loop-entries g l =
+    l.entries.items ++ merge (g.R.FiniteMap.rest hash_cmp l.rows l.row) (g.S.FiniteMap.rest hash_cmp l.segments l.segment)
+    ≡ merge (map.entries (g.R.FiniteMap.seen hash_cmp l.rows)) (map.entries (g.S.FiniteMap.seen hash_cmp l.segments))
 
-abbrev pub decreases-loop-row : goal.decreases-loop-row
-decreases-loop-row l = (length l.rows + length l.segments) - (l.row + l.segment)
+abbrev pub decreases-loop-entries : goal.decreases-loop-entries
+decreases-loop-entries g l =
+    length (g.R.FiniteMap.rest hash_cmp l.rows l.row) + length (g.S.FiniteMap.rest hash_cmp l.segments l.segment)

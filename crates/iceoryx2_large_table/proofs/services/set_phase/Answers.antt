@@ -1,8 +1,10 @@
 use Rattle.std.proofs.Common.{sym, ap, ◌∙◌}
 use Rattle.iceoryx2_world.specs.declared.world.Phase.{Phase}
-use Rattle.iceoryx2_world.specs.Orders.{place_cmp}
+use Rattle.iceoryx2_world.specs.Orders.{place_cmp, place_exact}
 use Rattle.iceoryx2_world.specs.World.{set_to, unless_idle}
 use Rattle.iceoryx2_large_table.proofs.services.set_phase.Goals as goal
 
 pub returns-in-Idle : goal.returns-in-Idle
-returns-in-Idle g c = c.remove_at.ensures.effect ∙ ap (λ (x : Phase). set_to (g.P.FiniteMap.seen place_cmp c.args.phases.now) c.args.seat.now (unless_idle x)) (sym c.in-Idle.is)
+returns-in-Idle g c =
+    c.remove_at.ensures.effect place_exact
+    ∙ ap (λ (x : Phase). set_to (g.P.FiniteMap.seen place_cmp c.args.phases.now) c.args.seat (unless_idle x)) (sym c.in-Idle.is)

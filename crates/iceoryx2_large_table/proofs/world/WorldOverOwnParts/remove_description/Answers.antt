@@ -1,9 +1,0 @@
-use Rattle.std.proofs.Common.{true, false}
-use Rattle.iceoryx2_table.proofs.OwnParts.{description_removed}
-use Rattle.iceoryx2_large_table.proofs.world.WorldOverOwnParts.remove_description.Goals as goal
-
-pub returns-then-remove_description : goal.returns-then-remove_description
-returns-then-remove_description g c = description_removed c.args.node c.args.hash.now c.self.view_is c.remove_description.new.self true c.if-remove_description.true c.remove_description.ensures
-
-pub returns : goal.returns
-returns g c = description_removed c.args.node c.args.hash.now c.self.view_is c.remove_description.new.self false c.if-remove_description.false c.remove_description.ensures
