@@ -54,9 +54,9 @@ def terms_of(question):
     return re.search(" (attribute|require_key)=", question) is not None, re.search("(payload|header)=", question) is not None
 
 
-def grown(standing):
-    """What a storage is kept in has grown so far behind so many calls: a vector doubles, and so does a chunk."""
-    return min(standing, 8).bit_length()
+def grown(storage, standing):
+    """What a storage is kept in has grown so far behind so many calls: a vector doubles. A large table is asked at each."""
+    return min(standing, 16) if storage == "large" else min(standing, 8).bit_length()
 
 
 def kind_of(question, answer, size):
@@ -83,7 +83,7 @@ def picked(driver):
         for at, (line, answer) in enumerate(run):
             word = line.split()[1] if line.startswith("? ") else ""
             if word in (*PATTERNS, *ASKING, *SPARING, *VALUES, "left"):
-                kind = kind_of(line[2:], answer, grown(standing))
+                kind = kind_of(line[2:], answer, grown(storage, standing))
                 place = "values" if word in VALUES else storage
                 before = [command for command, _ in run[:at]]
                 found.setdefault((place, kind), Picked(place, kind[0], before, line[2:], answer))
