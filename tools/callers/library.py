@@ -29,10 +29,10 @@ def headers(checks):
     exported = set(re.findall(r" T (wulameron_c_\w+)", checks.ran(["nm", "-g", "--defined-only", archive]).stdout))
     declared = set(re.findall(r"uint32_t (wulameron_c_\w+)\(", (C / "wulameron_c.h").read_text(encoding="utf-8")))
     checks.counts(exported == declared, f"the archive and wulameron_c.h differ in {sorted(exported ^ declared)}")
-    given = set(re.findall(r" T (\w+)", checks.ran(["nm", "-D", "--defined-only", OUT / "libwulameron.so"]).stdout))
+    given = set(re.findall(r" \w (\w+)", checks.ran(["nm", "-D", "--defined-only", OUT / "libwulameron.so"]).stdout))
     named = set(re.findall(r"\b(wulameron_\w+)\(", (C / "wulameron.h").read_text(encoding="utf-8")))
     missing = named - given
-    more = {name for name in given - named - exported if name.startswith("wulameron_")}
+    more = given - named - exported
     checks.counts(not missing and not more, f"the shared object lacks {sorted(missing)}, and has {sorted(more)}")
 
 
