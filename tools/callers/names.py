@@ -1,4 +1,5 @@
-"""The names and numbers of settings and refusals for programs in C, Python and Rust, beside the rows of the code."""
+"""The names and numbers of settings and refusals for programs in C, Python and Rust, beside the rows of the code, and the
+version of what is installed beside the one that the program prints."""
 import re
 
 # What a setting takes: in the rows of lines, and in bindings/c/words.h.
@@ -33,7 +34,8 @@ def numbers_in_python(source):
 
 
 def differences(top):
-    """Where the numbers of settings and the names of refusals for callers differ from one another, or from the code."""
+    """Where the numbers of settings, the names of refusals and the version for callers differ from one another, or from
+    the code."""
     text = lambda path: (top / path).read_text(encoding="utf-8")
     numbers = numbers_in_words(text("bindings/c/words.h"))
     told = [f"bindings/c/words.h and negotiate_lines differ in {row}"
@@ -52,4 +54,8 @@ def differences(top):
         found = re.search(rf"^    {enum} \d+: ([^;]*);", own, re.M)
         if not found or found.group(1).split() != names.split():
             told.append(f"bindings/rust has other errors of {enum} than iceoryx2_errors")
+    printed = re.search(r'const VERSION: &str = "(.*)";', text("crates/wulameron_arguments/src/commands.rt"))[1]
+    version = re.search(r'^version = "(.*)"$', text("bindings/rust/Cargo.toml"), re.M)[1]
+    if version != printed:
+        told.append(f"bindings/rust/Cargo.toml has version {version}, and wulameron prints {printed}")
     return sorted(told)
