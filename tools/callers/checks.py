@@ -22,7 +22,8 @@ class Checks:
         self.room, self.program = room, program
         self.passed = self.failed = self.folders = 0
         self.compiler = os.environ.get("CC", "cc")
-        self.environment = os.environ | {"WULAMERON_PROGRAM": str(program)}
+        # The crate for Rust would take an installed library before the one that is checked here.
+        self.environment = os.environ | {"WULAMERON_PROGRAM": str(program), "WULAMERON_LIB_DIR": str(OUT)}
 
     def folder(self):
         """A new folder, for logs."""
