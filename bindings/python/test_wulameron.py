@@ -5,6 +5,7 @@ Those over a log need the program `wulameron`, which WULAMERON_PROGRAM names, or
 import hashlib
 import os
 import pathlib
+import re
 import struct
 import subprocess
 import sys
@@ -16,6 +17,12 @@ import wulameron as w
 
 HERE = pathlib.Path(__file__).resolve().parent
 os.environ.setdefault("WULAMERON_PROGRAM", str(HERE.parent.parent / "crates/wulameron/out/wulameron"))
+
+
+def numbers_of_header():
+    """The numbers that wulameron.h defines, by their names without the prefix."""
+    text = (HERE.parent / "c/wulameron.h").read_text(encoding="utf-8")
+    return {name: int(number) for name, number in re.findall(r"^#define WULAMERON_(\w+) (\d+)u\b", text, re.MULTILINE)}
 
 
 class Calls(unittest.TestCase):
@@ -104,7 +111,7 @@ class Calls(unittest.TestCase):
 
     def test_numbers(self):
         """The numbers here are those of the header, and so are the codes."""
-        header = w.numbers_of_header()
+        header = numbers_of_header()
         for name, number in header.items():
             if hasattr(w, name):
                 self.assertEqual(getattr(w, name), number, name)

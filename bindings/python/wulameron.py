@@ -9,9 +9,11 @@
 `Session()` is over a table within this process. `Session(path)` is over the log in a file that processes share: there
 `session.node` is the node that it claimed, and each request is in its name.
 
-`tools/build-c` builds the library that this loads: bindings/c/out/libwulameron.so, or what WULAMERON_LIBRARY names. A
-session over a log starts the program `wulameron`, or what WULAMERON_PROGRAM names. The numbers are those of
-bindings/c/wulameron.h, which tells each call. A session is for the thread that opened it.
+The import loads the library that `tools/build-c` builds or installs. It takes the file that WULAMERON_LIBRARY names, or
+else libwulameron.so beside this module, or else bindings/c/out/libwulameron.so of the repository, or else what the
+system's loader finds as libwulameron.so.0. A session over a log starts the program `wulameron`, or what
+WULAMERON_PROGRAM names. The numbers are those of wulameron.h, which tells each call. A session is for the thread that
+opened it.
 """
 from __future__ import annotations
 
@@ -19,12 +21,30 @@ import ctypes
 import enum
 import os
 import pathlib
-import re
 from types import TracebackType
 from typing import NamedTuple
 
-_C = pathlib.Path(__file__).resolve().parent.parent / "c"
-_LIBRARY = ctypes.CDLL(os.environ.get("WULAMERON_LIBRARY", str(_C / "out/libwulameron.so")))
+_HERE = pathlib.Path(__file__).resolve().parent
+_C = _HERE.parent / "c"
+
+
+def _loaded() -> ctypes.CDLL:
+    places = _HERE / "libwulameron.so", _C / "out/libwulameron.so"
+    found = [str(place) for place in places if place.is_file()]
+    name = os.environ.get("WULAMERON_LIBRARY") or [*found, "libwulameron.so.0"][0]
+    try:
+        library = ctypes.CDLL(name)
+        library.wulameron_code_text.restype = ctypes.c_char_p
+    except (OSError, AttributeError) as error:
+        raise ImportError(
+            f"wulameron can't load its library: {error}. Build it with `tools/build-c`, or install it with "
+            "`tools/build-c --install PREFIX` and have the system's loader find PREFIX/lib, by ldconfig or by "
+            "LD_LIBRARY_PATH, or name the file libwulameron.so by the variable WULAMERON_LIBRARY."
+        ) from None
+    return library
+
+
+_LIBRARY = _loaded()
 
 VERSION = 2
 # The path of the log that the program has by default.
@@ -55,7 +75,6 @@ BEING_CREATED, PUBLISHED, MARKED, SEGMENT_ALONE = 1, 2, 3, 4
 _ALIVE, _ANY_NODE = 1, 2**64 - 1
 
 _U32, _U64, _SIZE = ctypes.c_uint32, ctypes.c_uint64, ctypes.c_size_t
-_LIBRARY.wulameron_code_text.restype = ctypes.c_char_p
 # `Session` has methods of these names.
 _Bytes = bytes
 _List = list
@@ -451,9 +470,3 @@ class Session:
         words = _u64(_ANY_NODE if node is None else node), _u32(dry_run)
         self._does("clean", *words, *map(ctypes.byref, counts))
         return Cleaned(*(count.value for count in counts))
-
-
-def numbers_of_header() -> dict[str, int]:
-    """The numbers that bindings/c/wulameron.h defines, by their names without the prefix."""
-    text = (_C / "wulameron.h").read_text(encoding="utf-8")
-    return {name: int(number) for name, number in re.findall(r"^#define WULAMERON_(\w+) (\d+)u\b", text, re.MULTILINE)}
