@@ -65,16 +65,28 @@ def shared(checks):
         runs_over(checks, [program], "calls.c with the shared object", ("tables", "logs"))
 
 
+def programs_of(page):
+    """The programs in C and Python on a page: a file's name, its text, the command that runs it, and what that prints. The
+    commands are below the programs of a section, one for each, and below them is what each of them prints."""
+    for section in re.split(r"^## ", page, flags=re.M):
+        texts = re.findall(r"^```(?:c|python)\n(.*?)^```$", section, re.M | re.S)
+        below = re.findall(r"(?:^    [^\n]*\n)+", section.rpartition("\n```\n")[2], re.M)
+        if texts and len(below) > 1:
+            commands, printed = (re.sub(r"^    ", "", block, flags=re.M) for block in below[:2])
+            for text, command in zip(texts, commands.splitlines()):
+                yield re.search(r"\w+\.(?:c|py)\b", command)[0], text, command, printed
+
+
 def pages(checks):
-    """The program in C of each page: compiled and run by the command below it, it prints what stands below that."""
+    """The programs of each page: compiled and run by the command below it, each prints what stands below that."""
     for page in PAGES:
         text = (TOP / page).read_text(encoding="utf-8")
-        found = re.search(r"^```c\n(.*?)^```$.*?^    (cc [^\n]*)\n\n(?:[^\n]*\n\n)?    ([^\n]*)$", text, re.M | re.S)
-        if not checks.counts(found is not None, f"{page} has no program in C with a command and what it prints"):
-            continue
-        folder = checks.folder()
-        (folder / "bindings").symlink_to(TOP / "bindings")
-        (folder / "lamps.c").write_text(found[1], encoding="utf-8")
-        ran = checks.ran(["sh", "-c", found[2]], cwd=folder)
-        is_right = ran.returncode == 0 and ran.stdout == f"{found[3]}\n"
-        checks.counts(is_right, f"{page}: the program prints {ran.stdout!r}, status {ran.returncode}, {ran.stderr}")
+        found, wanted = list(programs_of(text)), len(re.findall(r"^```(?:c|python)$", text, re.M))
+        checks.counts(0 < len(found) == wanted, f"{page}: {len(found)} of {wanted} programs have a command and what it prints")
+        for file, program, command, printed in found:
+            folder = checks.folder()
+            (folder / "bindings").symlink_to(TOP / "bindings")
+            (folder / file).write_text(program, encoding="utf-8")
+            ran = checks.ran(["sh", "-c", command], cwd=folder)
+            is_right = ran.returncode == 0 and ran.stdout == printed
+            checks.counts(is_right, f"{page}: {file} prints {ran.stdout!r}, status {ran.returncode}, {ran.stderr}")
