@@ -37,7 +37,7 @@ copy_crates() {
     done
     cp "$top/crates.txt" "$scratch/crates.txt"
     copy_crate "measured staticlib" "$scratch" "negotiate_serve negotiate_lines $libraries libc"
-    copy_crate shared_lines "$scratch" "negotiate_serve negotiate_lines $libraries iceoryx2_file_log iceoryx2_journal"
+    copy_crate shared_lines "$scratch" "negotiate_serve negotiate_lines $libraries iceoryx2_file_log iceoryx2_journal iceoryx2_log"
 }
 
 # Copies what rt kept of earlier checks of the crates on which this one stands, unless what is kept here is later.
