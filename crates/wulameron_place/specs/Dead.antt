@@ -4,6 +4,10 @@ use Rattle.iceoryx2_monitoring.specs.declared.state.NodeState.{NodeState}
 use Rattle.iceoryx2_monitoring.specs.declared.state.NodeState.TheVariants as state
 use Rattle.wulameron_place.specs.declared.dead.NotDead.{NotDead}
 use Rattle.wulameron_place.specs.declared.dead.NotDead.TheVariants as not_dead
+use Rattle.iceoryx2_file_log.specs.declared.error.FileFault.{FileFault}
+use Rattle.iceoryx2_file_log.specs.declared.error.FileFault.TheVariants as file
+use Rattle.iceoryx2_file_log.specs.Errors.{fault_text as file_text}
+use Rattle.iceoryx2_monitoring.specs.Errors.{fault_text as monitoring_text}
 use Rattle.iceoryx2_monitoring.specs.declared.error.MonitoringFault.{MonitoringFault}
 use Rattle.iceoryx2_monitoring.specs.declared.error.MonitoringFault.TheVariants as fault
 use Rattle.iceoryx2_postgres_log.specs.Faults.{fault_text as database_text}
@@ -13,7 +17,7 @@ use Rattle.wulameron_place.specs.declared.claims.NodeError.{NodeError}
 use Rattle.wulameron_place.specs.declared.claims.NodeError.TheVariants as error
 use Rattle.wulameron_place.specs.declared.claims.NodeFault.{NodeFault}
 use Rattle.wulameron_place.specs.declared.claims.NodeFault.TheVariants as node_fault
-use Rattle.wulameron_place.specs.Troubles.{database_advice_of}
+use Rattle.wulameron_place.specs.Troubles.{advice_of, database_advice_of}
 use Rattle.wulameron_place.specs.declared.dead.Unclaimed.{Unclaimed}
 use Rattle.wulameron_place.specs.declared.dead.Unclaimed.TheVariants as unclaimed
 
@@ -26,6 +30,16 @@ abbrev pub node_fault_text : NodeFault → List ℕ
 node_fault_text (node_fault.IsAlive node) = codes "node " ++ decimal node ++ codes " is alive"
 node_fault_text node_fault.NoFreeNode = codes "no node up to 65535 is free"
 node_fault_text (node_fault.Refused f) = database_text f ++ codes "; " ++ database_advice_of f
+
+-- what can be done where the file of a node, or the folder in which it lies, refused
+abbrev pub token_advice_of : FileFault → List ℕ
+token_advice_of file.NoPermission = codes "let this user make and write files in the log's folder"
+token_advice_of other = advice_of other
+
+-- why the file of a node isn't claimed, and what can be done
+abbrev pub token_text : MonitoringFault → List ℕ
+token_text (fault.File f) = file_text f ++ codes "; " ++ token_advice_of f
+token_text other = monitoring_text other
 
 -- why a node isn't claimed, by the fault of its file, or of the database
 abbrev pub unclaimed_in_file : MonitoringFault → Unclaimed

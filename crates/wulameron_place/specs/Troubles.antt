@@ -121,7 +121,7 @@ database_advice_of database.NotUnderstood =
     codes "start it by wulameron-postgres, with the server's messages in English"
 database_advice_of database.NoSchema = codes "have its owner run schema.sql in it"
 database_advice_of (database.AnotherVersion found) = codes "use a program of that version"
-database_advice_of database.NoLog = codes "name another log, or make it by `wulameron run`"
+database_advice_of database.NoLog = codes "name another log, or make it by `wulameron hold`"
 database_advice_of database.BadName = codes "name it by letters, digits, points, dashes and underscores"
 database_advice_of database.NoRight = codes "have its owner grant wulameron_node to the role"
 database_advice_of database.ReadOnly = codes "connect to the server that takes writes"
@@ -146,7 +146,7 @@ trouble_text trouble.Gone =
 -- what is written of why a log isn't opened, behind its path
 abbrev pub unopened_text : Trouble → Option (List ℕ)
 unopened_text (trouble.Refused (file.Failed system.NotFound)) =
-    Some (codes "there is no log; name another file, or make it by `wulameron run`")
+    Some (codes "there is no log; name another by --at, or make it by `wulameron hold`")
 unopened_text other = trouble_text other
 
 -- the line of a trouble with the log of this path

@@ -2,11 +2,12 @@
 //! one in a database rows, and locks of the database's session.
 
 ghost use Rattle.std.specs.Prelude.{◌≡◌, IfOk, IfSome};
-ghost use Rattle.wulameron_place.specs.Dead.{named_node};
+ghost use Rattle.wulameron_place.specs.Dead.{named_node, token_advice_of};
 
-use crate::trouble::database_advice;
+use crate::trouble::{advice, database_advice};
+use iceoryx2_file_log::error::FileFault;
 use iceoryx2_file_log::options::Sharing;
-use iceoryx2_monitoring::error::MonitoringError;
+use iceoryx2_monitoring::error::{MonitoringError, MonitoringFault};
 use iceoryx2_monitoring::state::{self, NodeState, NodeStatus};
 use iceoryx2_monitoring::token::{self, Token};
 use iceoryx2_postgres_log::fault::PostgresFault;
@@ -76,6 +77,34 @@ impl fmt::Display for NodeFault {
             NodeFault::NoFreeNode => write!(f, "no node up to 65535 is free"),
             NodeFault::Refused(fault) => write!(f, "{fault}; {}", database_advice(*fault)),
         }
+    }
+}
+
+/// Why the file of a node isn't claimed, or not looked at, which is told with what can be done.
+#[derive(Clone, Copy, Debug, PartialEq, Eq)]
+pub struct TokenTrouble(pub MonitoringFault);
+
+impl fmt::Display for TokenTrouble {
+    ghost use Rattle.std.specs.Prelude.{Some};
+    ghost use Rattle.wulameron_place.specs.Dead.{token_text};
+
+    ghost output = { λ trouble. Some (token_text trouble.0) };
+
+    fn fmt<W: fmt::Write>(&self, f: &mut fmt::Formatter<W>) -> fmt::Result {
+        match self.0 {
+            MonitoringFault::File(fault) => write!(f, "{fault}; {}", token_advice(fault)),
+            fault => write!(f, "{fault}"),
+        }
+    }
+}
+
+/// What can be done where the file of a node, or the folder in which it lies, refused.
+fn token_advice(fault: FileFault) -> &'static str
+    ensures { result.now ≡ token_advice_of fault }
+{
+    match fault {
+        FileFault::NoPermission => "let this user make and write files in the log's folder",
+        _ => advice(fault),
     }
 }
 

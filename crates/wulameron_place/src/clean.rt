@@ -45,6 +45,7 @@ pub enum Unfound {
 
 /// Gives back what dead nodes have over the log of a place, of all or of the one that is named, with a line on the
 /// output for each of which there was something. As a dry run it only writes what that would be, and appends nothing.
+/// The log has to be there.
 ///
 /// Gives the status with which the program ends: 0; 1 where the node that is named isn't dead; or 3 after a failure.
 /// The writer of errors has a line of these.
@@ -55,6 +56,9 @@ pub fn clean<F: Files<File = File> + Clock + RandomSource + AllocGlobal, W: Writ
     errors: &mut E,
 ) -> u8 {
     let mut reports = Reports::new(rt.alloc(), asked.place.at, errors);
+    if open_view(rt, asked.place, &mut reports).is_none() {
+        return FAULT;
+    }
     match wanted_nodes(rt, asked.place, asked.node) {
         Ok(nodes) => {
             if asked.is_dry_run {
@@ -262,7 +266,7 @@ fn write_cleaned<W: Write>(
 
 // ---- what they have would be given back
 
-/// Writes what would be given back of what these nodes have. The log has to be there.
+/// Writes what would be given back of what these nodes have.
 fn rehearse_found<F: Files<File = File> + Clock + RandomSource + AllocGlobal, W: Write, E: Write>(
     rt: &F,
     asked: &Clean<'_>,

@@ -6,7 +6,7 @@ ghost use Rattle.negotiate_serve.specs.Outputs.{Writes};
 ghost use Rattle.negotiate_serve.specs.Reports.{failure_line};
 ghost use Rattle.wulameron_place.specs.Troubles.{WritesLine, last_of, trouble_line, unopened_text};
 
-use crate::claims::NodeError;
+use crate::claims::{NodeError, TokenTrouble};
 use crate::halt::Halt;
 use crate::trouble::{Trouble, Troubled, last_trouble};
 use iceoryx2_file_log::error::FileFault;
@@ -18,7 +18,7 @@ use std::alloc::{AllocError, Global};
 use std::fmt;
 use std::io::{ErrorKind, Write};
 
-const NO_LOG: &str = "there is no log; name another file, or make it by `wulameron run`";
+const NO_LOG: &str = "there is no log; name another by --at, or make it by `wulameron hold`";
 
 /// What is told where something of a node stays.
 pub const STAYS: &str = "what was held stays; it is given back by `wulameron clean`";
@@ -100,7 +100,7 @@ impl<'a, E: Write> Reports<'a, E> {
             (E.contents self.old.errors) (E.contents self.new.errors) }
     {
         match error {
-            NodeError::File(error) => self.tell_at(error.path(), error.fault()),
+            NodeError::File(error) => self.tell_at(error.path(), TokenTrouble(error.fault())),
             NodeError::Database(fault) => self.tell(*fault),
         }
     }
