@@ -35,6 +35,7 @@ use Rattle.wulameron_place.specs.declared.trouble.Trouble.{Trouble}
 use Rattle.wulameron_place.specs.Troubles.{or_gone}
 use Rattle.wulameron_serve.specs.declared.answerer.NodeAnswerer.{NodeAnswerer}
 use Rattle.wulameron_serve.specs.Lines.{AnswersWhileUsable, IsUsable}
+use Rattle.wulameron_serve.specs.Own.{AnswersNamed, IsNamed}
 use Rattle.wulameron_serve.specs.Served.{AnswersLinesFor}
 use Rattle.wulameron_serve.specs.Shared.{StandsFor, AnswersFor, AnswersWith, BeginsAsAnswered, GivesBack, Replies, are_given, are_gone, none_owed, of_another, called, stays, again, closed, listed}
 use Rattle.wulameron_serve.specs.Views.{MayWrite, Writing, WritesExplained, WritesPlain}
@@ -151,14 +152,14 @@ module _ {M : Type 0} (Answers : Answering M) (m n : M) (line : List ℕ) (c : C
 -- ---- an input
 
 -- how the session of a node answers commands
-abbrev AnswersNamed : {S : Type 0} (settles shows spans : S → S → Type 0) (step : S → Letter → S → Type 0) (world : S → World) (writes : Writing S) (ending : List ℕ) (node : ℕ)
+abbrev AnswersAs : {S : Type 0} (settles shows spans : S → S → Type 0) (step : S → Letter → S → Type 0) (world : S → World) (writes : Writing S) (ending : List ℕ) (node : ℕ)
     → Answering (SessionOver S)
-AnswersNamed settles shows spans step world writes ending node old line c text new = AnswersWith form.Plain settles shows spans step world writes node line ending old c text new
+AnswersAs settles shows spans step world writes ending node old line c text new = AnswersWith form.Plain settles shows spans step world writes node line ending old c text new
 
 module _ {S D : Type 0} (settles shows spans : S → S → Type 0) (step : S → Letter → S → Type 0) (world : S → World) (writes : Writing S) (ending : List ℕ) where
   -- how the answerer answers commands
   abbrev pub AnswersNode : Answering (NodeAnswerer S D)
-  AnswersNode old line c text new = (new.node ≡ old.node) × AnswersNamed settles shows spans step world writes ending old.node (own_state old.session) line c text (own_state new.session)
+  AnswersNode old line c text new = (new.node ≡ old.node) × AnswersAs settles shows spans step world writes ending old.node (own_state old.session) line c text (own_state new.session)
 
 module _ {S D : Type 0} (settles shows spans : S → S → Type 0) (step : S → Letter → S → Type 0) (world : S → World) (trouble : S → Option Trouble) (writes : Writing S) (ending : List ℕ) where
   -- and lines
@@ -166,26 +167,32 @@ module _ {S D : Type 0} (settles shows spans : S → S → Type 0) (step : S →
   AnswersIt = AnswersNode settles shows spans step world writes ending
 
   abbrev pub AnswersOf : WrongLines → AnsweringLines (NodeAnswerer S D)
-  AnswersOf w = AnswersWhileUsable (λ a. or_gone a.is_gone (trouble (own_state a.session).table)) (LinesBy w AnswersIt)
+  AnswersOf w = AnswersWhileUsable (λ a. or_gone a.is_gone (trouble (own_state a.session).table)) (AnswersNamed (λ a. a.node) (LinesBy w AnswersIt))
 
   module _ (node : ℕ) where
     abbrev Shows : NodeAnswerer S D → SessionOver S → Type 0
     Shows a s = (a.node ≡ node) × (own_state a.session ≡ s)
 
     along : (a b : NodeAnswerer S D) (line : List ℕ) (c : Command) (text : List ℕ) (s : SessionOver S) → AnswersIt a line c text b → Shows a s
-        → (t : SessionOver S) × AnswersNamed settles shows spans step world writes ending node s line c text t × Shows b t
+        → (t : SessionOver S) × AnswersAs settles shows spans step world writes ending node s line c text t × Shows b t
     along a b line c text s by seen = (
       own_state b.session,
-      subst (λ (r : SessionOver S). AnswersNamed settles shows spans step world writes ending node r line c text (own_state b.session)) seen.1
-          (subst (λ (n : ℕ). AnswersNamed settles shows spans step world writes ending n (own_state a.session) line c text (own_state b.session)) seen.0 by.1),
+      subst (λ (r : SessionOver S). AnswersAs settles shows spans step world writes ending node r line c text (own_state b.session)) seen.1
+          (subst (λ (n : ℕ). AnswersAs settles shows spans step world writes ending n (own_state a.session) line c text (own_state b.session)) seen.0 by.1),
       (by.0 ∙ seen.0, refl),
     )
 
     usable_along : (w : WrongLines) (a b : NodeAnswerer S D) (line text : List ℕ) (s : SessionOver S) → AnswersOf w a line text b → Shows a s
         → (t : SessionOver S) × AnswersLinesFor settles shows spans step world trouble writes ending node w s line text t × Shows b t
     usable_along w a b line text s by seen =
-        let next = lines_by_along AnswersIt (AnswersNamed settles shows spans step world writes ending node) Shows along w a b line text s by.1 seen in
-        (next.0, (subst (λ (r : SessionOver S). IsUsable (trouble r.table)) seen.1 (usable_unless_gone a.is_gone (trouble (own_state a.session).table) by.0), next.1), next.2)
+        let next = lines_by_along AnswersIt (AnswersAs settles shows spans step world writes ending node) Shows along w a b by.1.0 text s by.1.2 seen in (
+          next.0,
+          (
+            subst (λ (r : SessionOver S). IsUsable (trouble r.table)) seen.1 (usable_unless_gone a.is_gone (trouble (own_state a.session).table) by.0),
+            (by.1.0, subst (λ (n : ℕ). IsNamed n line by.1.0) seen.0 by.1.1, next.1),
+          ),
+          next.2,
+        )
 
     -- what is written of an input is written of the session alone
     pub serves_for : (w : WrongLines) (a : NodeAnswerer S D) (ended : Result Ending ServeError) (input unread : List ℕ) (old new : Option (List ℕ)) → a.node ≡ node

@@ -4,6 +4,7 @@ pub mod Dead
 pub mod Gone
 pub mod Lines
 pub mod Nodes
+pub mod Own
 pub mod Served
 pub mod Shared
 pub mod Telling

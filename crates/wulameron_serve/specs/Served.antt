@@ -31,6 +31,7 @@ use Rattle.wulameron_place.specs.Troubles.{or_gone, trouble_of}
 use Rattle.wulameron_serve.specs.declared.answerer.NodeAnswerer.{NodeAnswerer}
 use Rattle.wulameron_serve.specs.Asked.{AsksWith}
 use Rattle.wulameron_serve.specs.Lines.{AnswersWhileUsable, TellsTrouble, seen_as, status_with}
+use Rattle.wulameron_serve.specs.Own.{AnswersNamed}
 use Rattle.wulameron_serve.specs.Shared.{AnswersWith, fresh_session}
 use Rattle.wulameron_serve.specs.Telling.{IsLogReply, IsTaken, greeting_of}
 use Rattle.wulameron_serve.specs.Views.{Writing, WritesExplained, WritesPlain, writes_in}
@@ -49,11 +50,11 @@ pub record ServesBy {S : Type 0} (spans : S → S → Type 0) (step : S → Lett
 
 module _ {S : Type 0} (settles shows spans : S → S → Type 0) (step : S → Letter → S → Type 0) (world : S → World)
     (trouble : S → Option Trouble) (writes : Writing S) (ending : List ℕ) (node : ℕ) (w : WrongLines) where
-  -- how lines are answered for the node, as long as the log can be used
+  -- how lines are answered for the node, which a `-` in its place names, as long as the log can be used
   abbrev pub AnswersLinesFor : AnsweringLines (SessionOver S)
-  AnswersLinesFor = AnswersWhileUsable (λ s. trouble s.table)
+  AnswersLinesFor = AnswersWhileUsable (λ s. trouble s.table) (AnswersNamed (λ s. node)
       (LinesBy w (λ old line c text new. AnswersWith form.Plain settles shows spans step world writes node line
-      ending old c text new))
+      ending old c text new)))
 
   -- The same of an input, and what stands behind it.
   abbrev pub Serves : (first : SessionOver S) → Result Ending Halt → (left : S) → (input : List ℕ)
@@ -131,11 +132,12 @@ module _ {S D : Type 0} (settles shows spans : S → S → Type 0) (step : S →
   AnswersQuestions old q text new = (new.node ≡ old.node) × AsksWith settles shows world trouble (own_state old.session)
       q text (own_state new.session)
 
-  -- Escaped lines are answered, as long as the log can be used. Where it can't be any more after one, it is told why in
-  -- place of its reply.
+  -- Escaped lines are answered, as long as the log can be used. A `-` in the place of the node names it. Where the log
+  -- can't be used any more after one, it is told why in place of its reply.
   abbrev pub AnswersEscaped : AnsweringLines (NodeAnswerer S D)
-  AnswersEscaped = AnswersWhileUsable (node_trouble trouble) (TellsTrouble (node_trouble trouble) (AnswersEscapedLine
-      (AnswersCommands form.Plain ending) (AnswersCommands form.Escaped []) AnswersQuestions))
+  AnswersEscaped = AnswersWhileUsable (node_trouble trouble) (TellsTrouble (node_trouble trouble)
+      (AnswersNamed (λ a. a.node) (AnswersEscapedLine (AnswersCommands form.Plain ending)
+      (AnswersCommands form.Escaped []) AnswersQuestions)))
 
   -- The writer has taken what is written of an input for the node, and nothing else. No line ends it.
   abbrev pub ServesEscaped : (first : NodeAnswerer S D) → Result Ending Halt → (left : S) → (input : List ℕ)

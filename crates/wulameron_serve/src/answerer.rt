@@ -24,6 +24,7 @@ ghost use Rattle.wulameron_serve.specs.Shared.{Replies, StandsFor, fresh_session
 ghost use Rattle.wulameron_serve.specs.Views.{MayWrite, WritesExplained, writes_in};
 
 use crate::dead::{clean_dead, is_blocked};
+use crate::own_lines::OfNode;
 use crate::view::Viewed;
 use escaped_serve::reply::describe_escaped;
 use iceoryx2_commands::command::{Call, Command, Reply};
@@ -422,6 +423,14 @@ impl<S: Viewed + Resuming + Troubled, D: DeadNodes + Drop> Answerer for NodeAnsw
         self.answer_alone(Form::Plain, line, command, text)?;
         self.go_on_unless(was_cut);
         text.push_str(S::ending())
+    }
+}
+
+impl<S: Viewed + Resuming + Troubled, D: DeadNodes + Drop> OfNode for NodeAnswerer<S, D> {
+    ghost own_node = { λ answerer. answerer.node };
+
+    fn own_node(&self) -> u64 {
+        self.node
     }
 }
 

@@ -14,6 +14,7 @@ ghost use Rattle.wulameron_serve.specs.Telling.{IsTaken, greeting_of, told_or_no
 use crate::answerer::NodeAnswerer;
 use crate::lines::serve_until;
 use crate::nodes::SharedNodes;
+use crate::own_lines::OwnLines;
 use crate::run::{report_end, settle_end};
 use crate::telling::{greeting, tell_trouble, tell_unclaimed, tell_wrong};
 use crate::told_lines::ToldLines;
@@ -243,7 +244,9 @@ pub fn serve_escaped<
 {
     let mut answerer = answerer;
     let lines = ToldLines {
-        lines: EscapedLines,
+        lines: OwnLines {
+            lines: EscapedLines,
+        },
     };
     let ended = serve_until(input, output, &mut answerer, reports, &lines);
     (ended, answerer.finish())

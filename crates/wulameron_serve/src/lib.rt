@@ -9,6 +9,9 @@
 //! call is made once more. Between two lines the world agrees, the slots' factories stand and the node is an own one
 //! (`StandsFor`). What is explained begins with what is written without explanations (`BeginsAsAnswered`).
 //!
+//! `own_lines::OwnLines` answers a line of which the third term is `-` as the line that has the node's number there
+//! (`AnswersNamed`), and any other as it is.
+//!
 //! `run::serve` writes the transcript by these answers as long as the log can be used, and closes what is open
 //! (`Serves`). A line that is no command has the reply `error: ` with what is wrong (`LinesBy`), and ends the
 //! program only with `--strict` (`MayEnd`). `NodeAnswerer::cleaned` ends by the log before the input is touched.
@@ -32,6 +35,7 @@ pub mod escaped;
 pub mod gone;
 pub mod lines;
 pub mod nodes;
+pub mod own_lines;
 pub mod run;
 pub mod telling;
 pub mod told_lines;

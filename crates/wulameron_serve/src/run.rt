@@ -9,6 +9,7 @@ ghost use Rattle.wulameron_serve.specs.Shared.{StandsFor};
 
 use crate::answerer::NodeAnswerer;
 use crate::lines::serve_until;
+use crate::own_lines::{OwnLines, told_end};
 use crate::view::Viewed;
 use explain_serve::explainer::with_room;
 use iceoryx2_log::call_log::SpansCalls;
@@ -54,10 +55,8 @@ pub fn run<
                 place,
                 cleans: run.cleans,
             };
-            report_end(
-                serve_log(log.for_node(node), dead, run, input, output, &mut reports),
-                &mut reports,
-            )
+            let ended = serve_log(log.for_node(node), dead, run, input, output, &mut reports);
+            report_end(told_end(rt.alloc(), node, ended), &mut reports)
         }
     };
     drop(claim);
@@ -185,6 +184,7 @@ pub fn serve<
         (own_state answerer.session) result.0 result.1 bytes (W.contents output.old) (W.contents output.new) }
 {
     let mut answerer = answerer;
-    let ended = serve_until(input, output, &mut answerer, reports, &wrong_lines);
+    let lines = OwnLines { lines: wrong_lines };
+    let ended = serve_until(input, output, &mut answerer, reports, &lines);
     (ended, answerer.finish())
 }
