@@ -1,1 +1,3 @@
 pub mod Factories
+pub mod LineEnds
+pub mod Told

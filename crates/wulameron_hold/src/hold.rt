@@ -4,7 +4,8 @@ ghost use Rattle.std.specs.Prelude.{◌≡◌};
 ghost use Rattle.wulameron_hold.specs.Holding.{end_status};
 
 use crate::holding::{HoldError, call_line, hold_call, status_of_hold};
-use iceoryx2_commands::command::{Call, Refusal};
+use crate::refused::{Offer, offer_to, tell_refusal};
+use iceoryx2_commands::command::Call;
 use iceoryx2_description::config::Config;
 use iceoryx2_journal::journal::Journal;
 use iceoryx2_log::call_log::SpansCalls;
@@ -12,7 +13,6 @@ use iceoryx2_monitoring::state::NodeStatus;
 use iceoryx2_session::resuming::{Renewing, Resuming};
 use iceoryx2_session::session::Session;
 use iceoryx2_session::world_storage::WorldStorage;
-use negotiate_explain::refusals::RefusalRow;
 use negotiate_lines::leaf::Form;
 use negotiate_lines::line::{Line, parse};
 use negotiate_lines::wrong::Wrong;
@@ -41,7 +41,7 @@ const NOT_MADE: &str = "no call was made; start the program again";
 /// Makes a call over the log of a place, which is made where there is none, prints what was agreed, and holds the factory
 /// until the input ends. The node is claimed as long. Gives the status with which the program ends: 0; 1 where the call
 /// is refused; 2 where the words are no call, and then nothing is claimed or made; or 3 after a failure. The writer of
-/// errors has a line of these.
+/// errors has a line of these, and of a refusal behind it what the call required and what the service offers.
 pub fn hold<
     F: Files<File = File> + Clock + RandomSource + AllocGlobal + Drop,
     R: Read + Drop,
@@ -138,16 +138,22 @@ fn hold_as<
     match log.for_node(node).start(alloc, reports) {
         Err(halt) => reports.halt(halt),
         Ok(journal) => {
-            let wanted = NodeCall { node, call, states };
+            let wanted = NodeCall {
+                node,
+                hold,
+                call,
+                states,
+            };
             let dead = PlaceNodes::of(rt, place);
             hold_over(journal, wanted, dead, input, output, reports)
         }
     }
 }
 
-/// A call for a node, and the states of all nodes before it.
-struct NodeCall {
+/// A call for a node with its words, and the states of all nodes before it.
+struct NodeCall<'a> {
     node: u64,
+    hold: &'a Hold<'a>,
     call: Call,
     states: Vec<NodeStatus>,
 }
@@ -161,19 +167,64 @@ fn hold_over<
     E: Write,
 >(
     journal: Journal<L>,
-    wanted: NodeCall,
+    wanted: NodeCall<'_>,
     dead: D,
     input: R,
     output: &mut W,
     reports: &mut Reports<'_, E>,
 ) -> u8 {
-    let NodeCall { node, call, states } = wanted;
     let alloc = reports.alloc();
+    let node = wanted.node;
     let mut input = input;
     let mut session = Session::over(Config::default(), journal);
     let _ = clean_dead(alloc, &mut session, &dead);
-    let held = hold_call(alloc, &mut session, call, &states, &mut input, output);
-    close_held(NodeAnswerer::over(node, session, dead), node, held, reports)
+    let ended = hold_wanted(alloc, &mut session, wanted, &mut input, output);
+    let answerer = NodeAnswerer::over(node, session, dead);
+    close_held(answerer, node, ended, reports)
+}
+
+/// How a hold ended, and of a call that is refused what it found.
+struct Ended {
+    held: Result<(), HoldError>,
+    offer: Option<Offer>,
+}
+
+/// Makes the call, and holds the factory until the input ends.
+fn hold_wanted<L: SpansCalls, R: Read, W: Write>(
+    alloc: Global,
+    session: &mut Session<Journal<L>>,
+    wanted: NodeCall<'_>,
+    input: &mut R,
+    output: &mut W,
+) -> Ended {
+    let NodeCall {
+        node,
+        hold,
+        call,
+        states,
+    } = wanted;
+    let held = hold_call(alloc, session, call, &states, input, output);
+    let offer = offer_if_refused(alloc, held, node, hold, session.storage());
+    Ended { held, offer }
+}
+
+/// The call of a node that is refused, and the service that it found. `None` where it isn't refused, where no such service
+/// is published, and where there is no memory.
+fn offer_if_refused<S: WorldStorage>(
+    alloc: Global,
+    held: Result<(), HoldError>,
+    node: u64,
+    hold: &Hold<'_>,
+    storage: &S,
+) -> Option<Offer> {
+    let Err(HoldError::Refused(_)) = held else {
+        return None;
+    };
+    let call = held_call(alloc, node, hold)?;
+    match offer_to(alloc, call, storage) {
+        Ok(offer) => offer,
+        Err(_) => None,
+    }
 }
 
 /// Closes what is held still, in another session of the database where the one before has ended, gives back what the
@@ -181,7 +232,7 @@ fn hold_over<
 fn close_held<S: Viewed + Resuming + Troubled + Drop, D: DeadNodes + Drop, E: Write>(
     answerer: NodeAnswerer<S, D>,
     node: u64,
-    held: Result<(), HoldError>,
+    ended: Ended,
     reports: &mut Reports<'_, E>,
 ) -> u8 {
     let mut answerer = answerer;
@@ -191,7 +242,7 @@ fn close_held<S: Viewed + Resuming + Troubled + Drop, D: DeadNodes + Drop, E: Wr
     let mut storage = answerer.finish();
     let is_settled = storage.settle(node, &[]).is_ok();
     let _ = reports.look(&storage);
-    let status = end_hold(storage.trouble(), held, is_settled, reports);
+    let status = end_hold(storage.trouble(), ended, is_settled, reports);
     if is_gone {
         return FAULT;
     }
@@ -201,14 +252,15 @@ fn close_held<S: Viewed + Resuming + Troubled + Drop, D: DeadNodes + Drop, E: Wr
 /// Tells what kept a hold from its end, and that something of the node stays, and gives the status.
 fn end_hold<E: Write>(
     trouble: Option<Trouble>,
-    held: Result<(), HoldError>,
+    ended: Ended,
     is_settled: bool,
     reports: &mut Reports<'_, E>,
 ) -> u8
-    ensures { result ≡ end_status held is_settled }
+    ensures { result ≡ end_status ended.held is_settled }
 {
+    let Ended { held, offer } = ended;
     if let Err(why) = held {
-        let _ = report_hold(trouble, why, reports);
+        let _ = report_hold(trouble, why, &offer, reports);
     }
     if !is_settled {
         let _ = reports.tell(STAYS);
@@ -224,30 +276,14 @@ fn end_hold<E: Write>(
 fn report_hold<E: Write>(
     trouble: Option<Trouble>,
     why: HoldError,
+    offer: &Option<Offer>,
     reports: &mut Reports<'_, E>,
 ) -> Result<(), ServeError> {
     match why {
-        HoldError::Refused(refusal) => report_refusal(refusal, reports),
+        HoldError::Refused(refusal) => tell_refusal(refusal, offer, reports),
         HoldError::NotMade => reports.tell(NOT_MADE),
         HoldError::Unshown(why) => report_look(trouble, why, reports),
         HoldError::Reading(fault) => reports.tell_failure(fault),
         HoldError::NotClosed => Ok(()),
     }
-}
-
-/// Writes the text of a refusal, and what can be done.
-fn report_refusal<E: Write>(
-    refusal: Refusal,
-    reports: &mut Reports<'_, E>,
-) -> Result<(), ServeError> {
-    match refusal_text(reports.alloc(), refusal) {
-        Ok(text) => reports.tell(text.as_str()),
-        Err(_) => Err(ServeError::OutOfMemory),
-    }
-}
-
-/// The text of a refusal, and what can be done.
-fn refusal_text(alloc: Global, refusal: Refusal) -> Result<String, AllocError> {
-    let advice = RefusalRow::of(refusal).what_can_be_done;
-    format!(in alloc; "{refusal}; {advice}")
 }
