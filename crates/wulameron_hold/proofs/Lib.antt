@@ -1,3 +1,4 @@
+pub mod Escaped
 pub mod Factories
 pub mod LineEnds
 pub mod Told

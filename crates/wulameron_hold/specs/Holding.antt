@@ -13,6 +13,7 @@ use Rattle.iceoryx2_session.specs.Sessions.{SessionOver}
 use Rattle.iceoryx2_world.specs.World.{World}
 use Rattle.negotiate_serve.specs.declared.ending.ServeError.{ServeError}
 use Rattle.wulameron_arguments.specs.declared.asked.Hold.{Hold}
+use Rattle.wulameron_hold.specs.Words.{word_of}
 use Rattle.wulameron_hold.specs.declared.holding.Factory.{Factory}
 use Rattle.wulameron_hold.specs.declared.holding.HoldError.{HoldError}
 use Rattle.wulameron_hold.specs.declared.holding.HoldError.TheVariants as hold
@@ -20,11 +21,11 @@ use Rattle.wulameron_view.specs.declared.looking.LookError.{LookError}
 use Rattle.wulameron_arguments.specs.declared.asked.Wanted.TheVariants as wanted
 use Rattle.wulameron_view.specs.Looking.{IsShown, IsUnshown, Prints}
 
--- a call's line: its words in their order, with the node and the slot 0 before the name
+-- a call's line, which is escaped: its words in their order, with the node and the slot 0 before the name
 abbrev pub call_line : (node : ℕ) → Hold → List ℕ
 call_line node h =
-    (h.pattern.now ++ codes " " ++ h.how.now ++ codes " " ++ decimal node ++ codes " 0 " ++ h.name.now)
-    ++ flat_map (λ term. codes " " ++ term.now) h.terms.items
+    (h.pattern.now ++ codes " " ++ h.how.now ++ codes " " ++ decimal node ++ codes " 0 ") ++ word_of h.name.now
+    ++ flat_map (λ term. codes " " ++ word_of term.now) h.terms.items
 
 -- The reply gave a factory in this slot, of the service of this number; or it is why there is none.
 abbrev pub IsFactoryOf : Reply → Result Factory HoldError → Type 0

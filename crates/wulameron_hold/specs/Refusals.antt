@@ -40,8 +40,8 @@ asks_clock (refusal.EventOpenOrCreate error) = is_of_create error
 asks_clock _ = false
 
 -- one of two constants
-abbrev either : Bool → (yes no : record { now : List ℕ }) → List ℕ
-either b yes no = if b then yes.now else no.now
+abbrev either : Bool → (first second : record { now : List ℕ }) → List ℕ
+either b first second = if b then first.now else second.now
 
 -- in terms of a call, where the row of the refusal names calls of the library or a storage of it; else that of the row
 abbrev pub remedy_at : Reason → Refusal → List ℕ

@@ -14,13 +14,15 @@ use iceoryx2_session::resuming::{Renewing, Resuming};
 use iceoryx2_session::session::Session;
 use iceoryx2_session::world_storage::WorldStorage;
 use negotiate_lines::leaf::Form;
-use negotiate_lines::line::{Line, parse};
+use negotiate_lines::line::{Line, parse_in};
 use negotiate_lines::wrong::Wrong;
 use negotiate_lines::wrong_text::wrong_text;
 use negotiate_serve::ending::{DONE, FAULT, NOT_A_COMMAND, ServeError};
 use negotiate_serve::output::write_out;
 use negotiate_serve::report::report_failure;
+use percent_encoding::{DecodeError, percent_decode};
 use std::alloc::{AllocError, Global};
+use std::borrow::CowStr;
 use std::fs::File;
 use std::io::{Read, Write};
 use std::random::RandomSource;
@@ -73,7 +75,7 @@ fn refuse_words<E: Write>(alloc: Global, hold: &Hold<'_>, errors: &mut E) -> Opt
     let Ok(line) = call_line(alloc, 0, hold) else {
         return Some(no_memory(errors));
     };
-    match parse(alloc, line.as_bytes()) {
+    match parse_in(alloc, Form::Escaped, line.as_bytes()) {
         Ok(Line::NotACommand(wrong)) => {
             let _ = report_words(alloc, wrong, errors);
             Some(NOT_A_COMMAND)
@@ -95,16 +97,80 @@ fn report_words<E: Write>(
     }
 }
 
-/// The line of what is wrong with the words of a call.
+/// The line of what is wrong with the words of a call, which are told as they were given.
 fn words_line(alloc: Global, wrong: Wrong<'_>) -> Result<String, AllocError> {
-    let told = wrong_text(alloc, wrong)?;
+    let (first, second) = terms_in(wrong);
+    let first = given(alloc, first)?;
+    let second = given(alloc, second)?;
+    let told = wrong_text(alloc, with_terms(wrong, &first, &second))?;
     format!(in alloc; "wulameron: {told}\n")
+}
+
+/// A word of a call, or a part of one, as it was given.
+fn given<'a>(alloc: Global, term: &'a str) -> Result<CowStr<'a>, AllocError> {
+    if term == "%" {
+        return Ok(CowStr::Borrowed(""));
+    }
+    match percent_decode(term.as_bytes()).decode_utf8(alloc) {
+        Ok(text) => Ok(text),
+        Err(DecodeError::OutOfMemory) => Err(AllocError),
+        Err(_) => Ok(CowStr::Borrowed(term)),
+    }
+}
+
+/// The words, or parts of them, of which something is wrong: at most two.
+fn terms_in<'a>(wrong: Wrong<'a>) -> (&'a str, &'a str) {
+    match wrong {
+        Wrong::NameLength(term)
+        | Wrong::NoEqualsSign(term)
+        | Wrong::NoTime(term)
+        | Wrong::NoColon(term)
+        | Wrong::KeyLength(term)
+        | Wrong::ValueLength(term)
+        | Wrong::TooManyKeys(term) => (term, ""),
+        Wrong::NoSuchSetting {
+            name,
+            pattern: _,
+            settings: _,
+            admitted: _,
+        } => (name, ""),
+        Wrong::Value(name, value, _) => (name, value),
+        Wrong::TooManyPairs(key, value) => (key, value),
+        _ => ("", ""),
+    }
+}
+
+/// The same of these words in place of its own.
+fn with_terms<'a>(wrong: Wrong<'a>, first: &'a str, second: &'a str) -> Wrong<'a> {
+    match wrong {
+        Wrong::NameLength(_) => Wrong::NameLength(first),
+        Wrong::NoEqualsSign(_) => Wrong::NoEqualsSign(first),
+        Wrong::NoTime(_) => Wrong::NoTime(first),
+        Wrong::NoColon(_) => Wrong::NoColon(first),
+        Wrong::KeyLength(_) => Wrong::KeyLength(first),
+        Wrong::ValueLength(_) => Wrong::ValueLength(first),
+        Wrong::TooManyKeys(_) => Wrong::TooManyKeys(first),
+        Wrong::NoSuchSetting {
+            name: _,
+            pattern,
+            settings,
+            admitted,
+        } => Wrong::NoSuchSetting {
+            name: first,
+            pattern,
+            settings,
+            admitted,
+        },
+        Wrong::Value(_, _, kind) => Wrong::Value(first, second, kind),
+        Wrong::TooManyPairs(_, _) => Wrong::TooManyPairs(first, second),
+        _ => wrong,
+    }
 }
 
 /// The call of these words for a node. They are a call, so where there is none there is no memory.
 fn held_call(alloc: Global, node: u64, hold: &Hold<'_>) -> Option<Call> {
     match call_line(alloc, node, hold) {
-        Ok(line) => call_of(alloc, Form::Plain, line.as_bytes(), node),
+        Ok(line) => call_of(alloc, Form::Escaped, line.as_bytes(), node),
         Err(_) => None,
     }
 }

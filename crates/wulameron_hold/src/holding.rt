@@ -1,12 +1,12 @@
 //! One call, whose factory is held until an input ends.
 
-ghost use Rattle.std.specs.Prelude.{◌≡◌, ◌++◌, IfOk, OnOk, codes, string_bytes};
-ghost use Rattle.std.specs.List.{flat_map};
+ghost use Rattle.std.specs.Prelude.{◌≡◌, IfOk, string_bytes};
 ghost use Rattle.iceoryx2_journal.specs.Journal.{IsAccessOver, Spans};
 ghost use Rattle.iceoryx2_session.specs.SessionStates.{own_state};
 ghost use Rattle.wulameron_hold.specs.Holding.{Holds, HoldsMade, call_line as call_line_of, end_of_hold};
 ghost use Rattle.wulameron_hold.specs.Holding.{IsFactoryOf, hold_status};
 
+use crate::words::{escape_word, write_words};
 use iceoryx2_commands::command::{Call, Command, Refusal, Reply};
 use iceoryx2_journal::journal::Journal;
 use iceoryx2_log::call_log::SpansCalls;
@@ -44,25 +44,14 @@ pub fn status_of_hold(held: Result<(), HoldError>) -> u8
     }
 }
 
-/// Writes each word behind a space.
-fn write_words(words: &[&str], text: &mut String) -> Result<(), AllocError>
-    ensures { OnOk result (string_bytes text.new
-        ≡ string_bytes text.old ++ flat_map (λ word. codes " " ++ word.now) words.now) }
-{
-    for word in words {
-        write!(text, " {word}")?;
-    }
-    Ok(())
-}
-
-/// The line of a call of this node for the slot 0. `AllocError` where there is no memory.
+/// The escaped line of a call of this node for the slot 0. `AllocError` where there is no memory.
 pub fn call_line(alloc: Global, node: u64, hold: &Hold<'_>) -> Result<String, AllocError>
     ensures { IfOk result (λ line. string_bytes line ≡ call_line_of node hold.now) }
 {
     let pattern = hold.pattern;
     let how = hold.how;
-    let name = hold.name;
-    let mut line = format!(in alloc; "{pattern} {how} {node} 0 {name}")?;
+    let mut line = format!(in alloc; "{pattern} {how} {node} 0 ")?;
+    escape_word(hold.name.as_bytes(), &mut line)?;
     write_words(&hold.terms, &mut line)?;
     Ok(line)
 }

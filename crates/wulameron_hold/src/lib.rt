@@ -9,9 +9,13 @@
 //! service offers (`refusal_line`, `offered_lines`); `offer_to` gives the service of the call's name and pattern that is
 //! published in the storage's world (`IsFoundIn`). `remedy::remedy`: each refusal has its text (`remedy_of`). That `hold`
 //! tells the service that was there when the call was refused is tested.
+//!
+//! `holding::call_line`: the words of a call are the terms of an escaped line (`call_line`, `word_of`), so that a name and the
+//! leaves of a term may have blanks. That what is wrong is told of the words as they were given is tested.
 #![tactic(auto)]
 
 pub mod hold;
 pub mod holding;
 pub mod refused;
 pub mod remedy;
+pub mod words;
