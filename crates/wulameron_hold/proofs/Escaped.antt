@@ -1,5 +1,5 @@
 -- What a word is written as, and what it stands for.
-use Rattle.std.proofs.Common.{◌≡◌, ◌≢◌, ◌⊎◌, inl, inr, ℕ, ◌<◌, ◌/◌, ◌%◌, Bool, true, false, ◌&&◌, List, [], ◌∷◌, ◌++◌, All, Some, ◌==◌, length, bytes_eq, codes, eqb, refl, sym, ap, subst, ◌∙◌, ⊎_elim, arith}
+use Rattle.std.proofs.Common.{◌≡◌, ◌≢◌, ℕ, ◌<◌, ◌/◌, ◌%◌, Bool, true, false, ◌&&◌, List, [], ◌∷◌, ◌++◌, All, Some, ◌==◌, length, bytes_eq, codes, eqb, refl, sym, ap, subst, ◌∙◌, ⊎_elim, arith}
 use Rattle.std.specs.Str.{IsUtf8}
 use Rattle.std.specs.Char.{is_digit}
 use Rattle.std.specs.Fmt.{digit_glyph}
