@@ -15,6 +15,7 @@ use iceoryx2_session::session::Session;
 use iceoryx2_session::world_storage::WorldStorage;
 use negotiate_lines::leaf::Form;
 use negotiate_lines::line::{Line, parse_in};
+use negotiate_lines::vocabulary::Kind;
 use negotiate_lines::wrong::Wrong;
 use negotiate_lines::wrong_text::wrong_text;
 use negotiate_serve::ending::{DONE, FAULT, NOT_A_COMMAND, ServeError};
@@ -103,7 +104,18 @@ fn words_line(alloc: Global, wrong: Wrong<'_>) -> Result<String, AllocError> {
     let first = given(alloc, first)?;
     let second = given(alloc, second)?;
     let told = wrong_text(alloc, with_terms(wrong, &first, &second))?;
-    format!(in alloc; "wulameron: {told}\n")
+    let hint = hint(wrong);
+    format!(in alloc; "wulameron: {told}{hint}\n")
+}
+
+/// What is told besides of a word that is wrong.
+fn hint(wrong: Wrong<'_>) -> &'static str {
+    match wrong {
+        Wrong::Value(_, _, Kind::Type) => {
+            "; size and alignment are bytes, and the alignment is a power of two"
+        }
+        _ => "",
+    }
 }
 
 /// A word of a call, or a part of one, as it was given.
