@@ -22,7 +22,7 @@ _wulameron() {
     elif [[ $takes_options && $word == -- ]]; then
       takes_options=''
     elif [[ $takes_options && $word == -* ]]; then
-      case $word in --at | --wait | --psql | --node | --pattern | --from) option=$word ;; esac
+      case $word in --at | --node | --wait | --psql | --color | --name | --pattern | --width | --from) option=$word ;; esac
     elif [[ -z $command ]]; then
       command=$word
     else
@@ -42,25 +42,30 @@ _wulameron() {
   case "$command $where" in
     ' 1') found='run hold list show nodes clean log watch check help' ;;
     'help 1') found='run hold list show nodes clean log watch check' ;;
-    ' options') found='-h --help -V --version' ;;
-    'run options') found='--at --wait --psql --sync --group --node --explain --strict --escaped --no-clean -h --help -V --version' ;;
+    ' options') found='--at --wait --psql -h --help -V --version' ;;
+    ' --at') found='LOG' ;;
+    'run options') found='--at --sync --group --node --explain --strict --escaped --no-clean --wait --psql -h --help -V --version' ;;
     'run --at') found='LOG' ;;
-    'hold options') found='--at --wait --psql --sync --group --node -h --help -V --version' ;;
+    'hold options') found='--at --sync --group --node --wait --psql -h --help -V --version' ;;
     'hold --at') found='LOG' ;;
     'hold 1') found='event pubsub rr' ;;
     'hold 2') found='create open open_or_create' ;;
-    'list options') found='--at --wait --psql --json -h --help -V --version' ;;
+    'list options') found='--at --json --color --json-lines -q --quiet --watch --name --pattern --width --wait --psql -h --help -V --version' ;;
     'list --at') found='LOG' ;;
-    'show options') found='--at --wait --psql --json --pattern -h --help -V --version' ;;
+    'list --color') found='auto always never' ;;
+    'list --pattern') found='event pubsub rr' ;;
+    'show options') found='--at --json --color --pattern --wait --psql -h --help -V --version' ;;
     'show --at') found='LOG' ;;
+    'show --color') found='auto always never' ;;
     'show --pattern') found='event pubsub rr' ;;
-    'nodes options') found='--at --wait --psql --json -h --help -V --version' ;;
+    'nodes options') found='--at --json --color --json-lines -q --quiet --wait --psql -h --help -V --version' ;;
     'nodes --at') found='LOG' ;;
-    'clean options') found='--at --wait --psql --sync --group --dry-run -h --help -V --version' ;;
+    'nodes --color') found='auto always never' ;;
+    'clean options') found='--at --sync --group --dry-run --wait --psql -h --help -V --version' ;;
     'clean --at') found='LOG' ;;
-    'log options') found='--at --wait --psql --from --follow -h --help -V --version' ;;
+    'log options') found='--at --from --follow --wait --psql -h --help -V --version' ;;
     'log --at') found='LOG' ;;
-    'watch options') found='--at --wait --psql --json -h --help -V --version' ;;
+    'watch options') found='--at --json --wait --psql -h --help -V --version' ;;
     'watch --at') found='LOG' ;;
     'check options') found='--at --wait --psql -h --help -V --version' ;;
     'check --at') found='LOG' ;;

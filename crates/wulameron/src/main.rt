@@ -8,12 +8,14 @@ use clap::error::ErrorKind;
 use iceoryx2_postgres_log::fault::PostgresFault;
 use negotiate_serve::ending::{FAULT, NOT_A_COMMAND, ServeError};
 use negotiate_serve::report::report_failure;
+use std::io::Write;
 use std::process::ExitCode;
 use std::{env, io};
 use wulameron_arguments::arguments::{arguments, asks_session};
-use wulameron_arguments::asked::{Asked, Place, Run};
+use wulameron_arguments::asked::{Asked, List, Place, Run};
 use wulameron_arguments::home::{DefaultLog, FolderError, default_log, make_folder};
 use wulameron_arguments::pipes::{Pipes, PipesError};
+use wulameron_arguments::screen::{Screen, screen_of};
 use wulameron_hold::hold::hold;
 use wulameron_place::clean::clean;
 use wulameron_place::reports::Reports;
@@ -21,7 +23,7 @@ use wulameron_place::trouble::Trouble;
 use wulameron_serve::escaped::{refuse_folder, refuse_log, run_escaped};
 use wulameron_serve::gone::refuse_session;
 use wulameron_serve::run::run;
-use wulameron_trail::commands::{check, log, watch};
+use wulameron_trail::commands::{check, log, watch, watch_list};
 use wulameron_trail::pauses::Sleeper;
 use wulameron_view::viewing::{list, nodes, show};
 
@@ -121,12 +123,21 @@ fn answer_lines(rt: &HostRuntime, asked: &Run<'_>) -> u8 {
     run(rt, asked, rt.reader(), &mut output, &mut rt.stderr())
 }
 
+/// Lists services, once or anew with each change, and gives the status.
+fn list_services<W: Write>(rt: &HostRuntime, asked: &List<'_>, output: &mut W) -> u8 {
+    if asked.watches {
+        let mut pauses = Sleeper::new(rt);
+        return watch_list(&rt, asked, &mut pauses, output, &mut rt.stderr());
+    }
+    list(&rt, asked, output, &mut rt.stderr())
+}
+
 /// Carries out what is asked for, and gives the status.
 fn answer(rt: &HostRuntime, asked: Asked<'_>) -> u8 {
     let mut output = io::writer(rt);
     match asked {
         Asked::Run(asked) => answer_lines(rt, &asked),
-        Asked::List(look) => list(&rt, &look, &mut output, &mut rt.stderr()),
+        Asked::List(asked) => list_services(rt, &asked, &mut output),
         Asked::Show(asked) => show(&rt, &asked, &mut output, &mut rt.stderr()),
         Asked::Nodes(look) => nodes(&rt, &look, &mut output, &mut rt.stderr()),
         Asked::Clean(asked) => clean(&rt, &asked, &mut output, &mut rt.stderr()),
@@ -144,7 +155,12 @@ fn answer(rt: &HostRuntime, asked: Asked<'_>) -> u8 {
 }
 
 /// Carries out what the words ask for, and gives the status.
-fn carry_out(rt: &HostRuntime, default: Option<&DefaultLog>, words: &[String]) -> u8 {
+fn carry_out(
+    rt: &HostRuntime,
+    default: Option<&DefaultLog>,
+    screen: Screen,
+    words: &[String],
+) -> u8 {
     if asks_session(words) {
         return refuse_session(&mut io::writer(rt), &mut rt.stderr());
     }
@@ -152,7 +168,7 @@ fn carry_out(rt: &HostRuntime, default: Option<&DefaultLog>, words: &[String]) -
         Some(log) => Some(log.path.as_str()),
         None => None,
     };
-    match arguments(rt.alloc(), home, words) {
+    match arguments(rt.alloc(), home, screen, words) {
         Ok(Some(asked)) => {
             let mut asked = asked;
             if !is_prepared(rt, default, &asked) {
@@ -165,7 +181,7 @@ fn carry_out(rt: &HostRuntime, default: Option<&DefaultLog>, words: &[String]) -
             }
         }
         Ok(None) => {
-            let _ = eprintln!(rt; "usage: wulameron COMMAND; wulameron --help lists the commands");
+            let _ = eprintln!(rt; "wulameron: no log; name one by --at, or see wulameron --help");
             NOT_A_COMMAND
         }
         Err(error) => print(rt, &error),
@@ -180,8 +196,11 @@ fn main(rt: HostRuntime) -> ExitCode {
     let Ok(default) = default_log(&rt) else {
         return ExitCode::from(fault(&rt, ServeError::OutOfMemory));
     };
+    let Ok(screen) = screen_of(&rt) else {
+        return ExitCode::from(fault(&rt, ServeError::OutOfMemory));
+    };
     match words(&rt) {
-        Ok(words) => ExitCode::from(carry_out(&rt, default.as_ref(), &words)),
+        Ok(words) => ExitCode::from(carry_out(&rt, default.as_ref(), screen, &words)),
         Err(error) => ExitCode::from(fault(&rt, ServeError::of_reading(&error))),
     }
 }

@@ -1,2 +1,3 @@
 pub mod Home
 pub mod Making
+pub mod Screens

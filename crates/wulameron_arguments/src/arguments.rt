@@ -5,27 +5,32 @@ ghost use Rattle.clap.specs.Words.{found_of, first_value};
 ghost use Rattle.wulameron_arguments.specs.Making.{asks_session};
 ghost use Rattle.iceoryx2_file_log.specs.declared.options.Sharing.TheVariants as sharing;
 
-use crate::asked::{Asked, Clean, Hold, LogLook, Look, Pattern, Place, Run, Show, Wanted};
+use crate::asked::{
+    Asked, Clean, Filter, Form, Hold, List, Listed, LogLook, Look, Pattern, Place, Run, Show,
+    Shown, Wanted,
+};
 use crate::commands::command;
+use crate::screen::Screen;
 use clap::{ArgMatches, Error};
 use iceoryx2_file_log::options::{FileLogOptions, Sharing};
 use std::alloc::{AllocError, Global};
 use std::time::Duration;
 
-/// What the words ask for, the first of which is the program's name. `home` is the log where no word names one; without
-/// it a word has to. `None` where they name no command.
+/// What the words ask for, the first of which is the program's name. `home` is the log where no word names one, and
+/// what is asked for is printed on this screen. `None` where the words name no command, or nothing names a log.
 ///
 /// `Error` where the words are wrong, or ask for help or the version, and where there is no memory.
 pub fn arguments<'a>(
     alloc: Global,
     home: Option<&'a str>,
+    screen: Screen,
     words: &'a [String],
 ) -> Result<Option<Asked<'a>>, Error> {
     let matches = command(alloc, home)?.try_get_matches_from(words)?;
     if let Some(matches) = matches.subcommand_matches("hold") {
         return Ok(hold_of(alloc, matches)?);
     }
-    Ok(asked_by(&matches))
+    Ok(asked_by(screen, &matches))
 }
 
 /// Whether the words ask for the command of before by which programs in other languages had sessions.
@@ -38,7 +43,7 @@ pub fn asks_session(words: &[String]) -> bool
     }
 }
 
-fn asked_by<'a>(matches: &ArgMatches<'a>) -> Option<Asked<'a>> {
+fn asked_by<'a>(screen: Screen, matches: &ArgMatches<'a>) -> Option<Asked<'a>> {
     if let Some(matches) = matches.subcommand_matches("run") {
         return Some(Asked::Run(run_of(matches)?));
     }
@@ -51,22 +56,22 @@ fn asked_by<'a>(matches: &ArgMatches<'a>) -> Option<Asked<'a>> {
     if let Some(matches) = matches.subcommand_matches("check") {
         return Some(Asked::Check(place_of(matches)?));
     }
-    viewing_by(matches)
+    viewing_by(screen, matches)
 }
 
 /// What a command that shows something asks for.
-fn viewing_by<'a>(matches: &ArgMatches<'a>) -> Option<Asked<'a>> {
+fn viewing_by<'a>(screen: Screen, matches: &ArgMatches<'a>) -> Option<Asked<'a>> {
     if let Some(matches) = matches.subcommand_matches("list") {
-        return Some(Asked::List(look_of(matches)?));
+        return Some(Asked::List(list_of(screen, matches)?));
     }
     if let Some(matches) = matches.subcommand_matches("show") {
-        return Some(Asked::Show(show_of(matches)?));
+        return Some(Asked::Show(show_of(screen, matches)?));
     }
     if let Some(matches) = matches.subcommand_matches("nodes") {
-        return Some(Asked::Nodes(look_of(matches)?));
+        return Some(Asked::Nodes(look_of(screen, matches)?));
     }
     if let Some(matches) = matches.subcommand_matches("watch") {
-        return Some(Asked::Watch(look_of(matches)?));
+        return Some(Asked::Watch(look_of(screen, matches)?));
     }
     None
 }
@@ -117,21 +122,59 @@ fn terms_of<'a>(alloc: Global, matches: &ArgMatches<'a>) -> Result<Vec<&'a str>,
 }
 
 /// The look that was matched. `None` where a value is missing that each match has.
-fn look_of<'a>(matches: &ArgMatches<'a>) -> Option<Look<'a>>
+fn look_of<'a>(screen: Screen, matches: &ArgMatches<'a>) -> Option<Look<'a>>
     ensures at { IfSome result (λ look. first_value (found_of matches.now) (codes "at") ≡ Some look.place.at.now) }
 {
     Some(Look {
         place: place_of(matches)?,
-        is_json: matches.get_flag("json"),
+        shown: Shown {
+            form: form_of(matches),
+            is_coloured: screen.is_coloured(matches.get_str("color")),
+        },
+    })
+}
+
+/// The form that was matched.
+fn form_of(matches: &ArgMatches<'_>) -> Form {
+    if matches.get_flag("json") {
+        return Form::Json;
+    }
+    if matches.get_flag("json-lines") {
+        return Form::JsonLines;
+    }
+    if matches.get_flag("quiet") {
+        Form::Names
+    } else {
+        Form::Text
+    }
+}
+
+/// The list that was matched. `None` where a value is missing that each match has.
+fn list_of<'a>(screen: Screen, matches: &ArgMatches<'a>) -> Option<List<'a>>
+    ensures at { IfSome result (λ list. first_value (found_of matches.now) (codes "at") ≡ Some list.place.at.now) }
+{
+    let Look { place, shown } = look_of(screen, matches)?;
+    let filter = Filter {
+        text: matches.get_str("name"),
+        pattern: pattern_of(matches.get_str("pattern")),
+    };
+    Some(List {
+        place,
+        listed: Listed {
+            shown,
+            width: screen.width(matches.get_one::<u64>("width")),
+            filter,
+        },
+        watches: matches.get_flag("watch"),
     })
 }
 
 /// The service that was matched. `None` where a value is missing that each match has.
-fn show_of<'a>(matches: &ArgMatches<'a>) -> Option<Show<'a>>
+fn show_of<'a>(screen: Screen, matches: &ArgMatches<'a>) -> Option<Show<'a>>
     ensures at { IfSome result (λ show.
         first_value (found_of matches.now) (codes "at") ≡ Some show.look.place.at.now) }
 {
-    let look = look_of(matches)?;
+    let look = look_of(screen, matches)?;
     let name = matches.get_str("name")?;
     Some(Show {
         look,
@@ -141,11 +184,19 @@ fn show_of<'a>(matches: &ArgMatches<'a>) -> Option<Show<'a>>
 
 /// The service of this name, and of the pattern that the word names, if there is one.
 fn wanted<'a>(name: &'a str, pattern: Option<&str>) -> Wanted<'a> {
-    match pattern {
-        Some("event") => Wanted::OfPattern(name, Pattern::Event),
-        Some("pubsub") => Wanted::OfPattern(name, Pattern::PublishSubscribe),
-        Some("rr") => Wanted::OfPattern(name, Pattern::RequestResponse),
-        _ => Wanted::Named(name),
+    match pattern_of(pattern) {
+        Some(pattern) => Wanted::OfPattern(name, pattern),
+        None => Wanted::Named(name),
+    }
+}
+
+/// The pattern of this word.
+fn pattern_of(word: Option<&str>) -> Option<Pattern> {
+    match word {
+        Some("event") => Some(Pattern::Event),
+        Some("pubsub") => Some(Pattern::PublishSubscribe),
+        Some("rr") => Some(Pattern::RequestResponse),
+        _ => None,
     }
 }
 

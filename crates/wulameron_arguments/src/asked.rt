@@ -77,12 +77,38 @@ pub struct Hold<'a> {
     pub terms: Vec<&'a str>,
 }
 
+/// In which form what is looked at is printed.
+#[derive(Clone, Copy, Debug, PartialEq, Eq)]
+pub enum Form {
+    /// Text for people.
+    Text,
+    /// What names each service or node, a line each.
+    Names,
+    /// One value of JSON.
+    Json,
+    /// A line of JSON for each service or node.
+    JsonLines,
+}
+
+/// How what is looked at is printed.
+#[derive(Clone, Copy, Debug, PartialEq, Eq)]
+pub struct Shown {
+    pub form: Form,
+    /// Whether what is dead is red in a text for people.
+    pub is_coloured: bool,
+}
+
+/// Text for people, without colours.
+pub const PLAIN: Shown = Shown {
+    form: Form::Text,
+    is_coloured: false,
+};
+
 /// A look at a log.
 #[derive(Clone, Copy, Debug)]
 pub struct Look<'a> {
     pub place: Place<'a>,
-    /// Whether it is printed as JSON.
-    pub is_json: bool,
+    pub shown: Shown,
 }
 
 /// A pattern of messaging, by name alone.
@@ -91,6 +117,36 @@ pub enum Pattern {
     Event,
     PublishSubscribe,
     RequestResponse,
+}
+
+/// Which services are listed: those of which all of this is so. A service that is being created is listed where nothing
+/// is asked for, since neither its name nor its pattern is known.
+#[derive(Clone, Copy, Debug)]
+pub struct Filter<'a> {
+    /// The name has this text in it.
+    pub text: Option<&'a str>,
+    /// It is of this pattern.
+    pub pattern: Option<Pattern>,
+}
+
+/// How the services of a log are listed.
+#[derive(Clone, Copy, Debug)]
+pub struct Listed<'a> {
+    pub shown: Shown,
+    /// How many columns of a terminal a line of a table has at most, as far as names can be cut for that. `None` where
+    /// nothing is cut.
+    pub width: Option<u64>,
+    /// Which ones.
+    pub filter: Filter<'a>,
+}
+
+/// That the services of a log are to be listed.
+#[derive(Clone, Copy, Debug)]
+pub struct List<'a> {
+    pub place: Place<'a>,
+    pub listed: Listed<'a>,
+    /// Whether they are listed anew with each change.
+    pub watches: bool,
 }
 
 /// Which service is wanted.
@@ -140,7 +196,7 @@ pub enum Asked<'a> {
     /// A call is to be held.
     Hold(Hold<'a>),
     /// The services are to be listed.
-    List(Look<'a>),
+    List(List<'a>),
     /// One service is to be shown.
     Show(Show<'a>),
     /// The nodes are to be listed.
@@ -161,7 +217,7 @@ impl<'a> Asked<'a> {
         match self {
             Asked::Run(run) => &mut run.place,
             Asked::Hold(hold) => &mut hold.place,
-            Asked::List(look) => &mut look.place,
+            Asked::List(list) => &mut list.place,
             Asked::Show(show) => &mut show.look.place,
             Asked::Nodes(look) => &mut look.place,
             Asked::Clean(clean) => &mut clean.place,

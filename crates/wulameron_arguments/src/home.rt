@@ -73,7 +73,10 @@ pub fn default_log<R: Env + Files<File = File> + AllocGlobal>(
 }
 
 /// The variable, where it is there and not empty.
-fn variable<R: Env + AllocGlobal>(rt: &R, name: &str) -> Result<Option<String>, AllocError> {
+pub(crate) fn variable<R: Env + AllocGlobal>(
+    rt: &R,
+    name: &str,
+) -> Result<Option<String>, AllocError> {
     match env::var(rt, name) {
         Ok(text) => Ok(Some(text).filter(|text| !text.as_str().is_empty())),
         Err(VarError::OutOfMemory) => Err(AllocError),

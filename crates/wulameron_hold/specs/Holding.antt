@@ -12,7 +12,9 @@ use Rattle.iceoryx2_session.specs.CommandWords.{AppliesHeld}
 use Rattle.iceoryx2_session.specs.Sessions.{SessionOver}
 use Rattle.iceoryx2_world.specs.World.{World}
 use Rattle.negotiate_serve.specs.declared.ending.ServeError.{ServeError}
+use Rattle.wulameron_arguments.specs.declared.asked.Form.TheVariants as form
 use Rattle.wulameron_arguments.specs.declared.asked.Hold.{Hold}
+use Rattle.wulameron_arguments.specs.declared.asked.Shown.{Shown}
 use Rattle.wulameron_hold.specs.Words.{word_of}
 use Rattle.wulameron_hold.specs.declared.holding.Factory.{Factory}
 use Rattle.wulameron_hold.specs.declared.holding.HoldError.{HoldError}
@@ -56,6 +58,10 @@ end_status held false = 3
 end_status (Err hold.NotClosed) true = 0
 end_status held true = hold_status held
 
+-- text for people, without colours
+abbrev pub plain : Shown
+plain = record { form = form.Text; is_coloured = false }
+
 module _ {S : Type 0} (spans : S → S → Type 0) (step : S → Letter → S → Type 0) (world : S → World)
     (states : List NodeStatus) where
   -- What was agreed of the service of this number is printed, as the world is after the call. Then, whatever came
@@ -63,7 +69,7 @@ module _ {S : Type 0} (spans : S → S → Type 0) (step : S → Letter → S �
   pub record HoldsMade (slot number : ℕ) (old new : SessionOver S) (result : Result (Unit {0}) HoldError)
       (before after : Option (List ℕ)) : Type 0 where
     pub shown : Result (Unit {0}) LookError
-    pub prints : Prints (IsShown false states (world old.table) (wanted.Numbered number))
+    pub prints : Prints (IsShown plain states (world old.table) (wanted.Numbered number))
         (IsUnshown (world old.table) (wanted.Numbered number)) shown before after
     pub waited : Result (Unit {0}) ServeError
     pub closed : Reply

@@ -15,7 +15,7 @@ use iceoryx2_session::session::Session;
 use negotiate_serve::ending::{DONE, FAULT, ServeError};
 use std::alloc::{AllocError, Global};
 use std::io::{ErrorKind, Read, Write};
-use wulameron_arguments::asked::{Hold, Wanted};
+use wulameron_arguments::asked::{Hold, PLAIN, Wanted};
 use wulameron_view::looking::{LookError, REFUSED, print, show_in};
 
 /// Why a call isn't held until the input ends, or not given back then.
@@ -129,7 +129,7 @@ fn hold_made<L: SpansCalls, R: Read, W: Write>(
         states,
         world,
         Wanted::Numbered(factory.number),
-        false,
+        PLAIN,
     );
     let shown = print(text, output);
     let waited = wait(shown, input);

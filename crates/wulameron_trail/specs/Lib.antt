@@ -5,6 +5,7 @@ pub mod Descriptions
 pub mod EntryTexts
 pub mod Pieces
 pub mod Showing
+pub mod Listing
 pub mod Showings
 pub mod Steps
 pub mod Stopping

@@ -6,6 +6,7 @@ ghost use Rattle.wulameron_trail.specs.Commands.{verdict_status as status_of_ver
 
 use crate::checker::{Verdict, check as verdict_on};
 use crate::following::{LogFile, Source, follow, open_file};
+use crate::listing::Listing;
 use crate::pauses::Pauses;
 use crate::printing::{Rest, show_entry};
 use crate::rows::LogRows;
@@ -23,7 +24,7 @@ use std::io::{Read, Write};
 use std::random::RandomSource;
 use std::rt::Files;
 use std::time::Clock;
-use wulameron_arguments::asked::{LogLook, Look, Place};
+use wulameron_arguments::asked::{Form, List, LogLook, Look, Place};
 use wulameron_place::opening::opened_view;
 use wulameron_place::reports::Reports;
 use wulameron_place::trouble::{Refusing, Trouble};
@@ -133,9 +134,60 @@ fn print_changes<S: Source, I: Pauses, W: Write>(
 ) -> Result<(), Stop> {
     let mut changes = Changes {
         world: source.services(alloc)?,
-        is_json: asked.is_json,
+        is_json: is_json(asked.shown.form),
     };
     follow(alloc, source, &mut changes, pauses, output)
+}
+
+/// Whether a form is JSON.
+fn is_json(form: Form) -> bool {
+    match form {
+        Form::Json => true,
+        Form::JsonLines => true,
+        _ => false,
+    }
+}
+
+/// Lists the services of a log, and anew with each change that comes, until a pause ends it. Gives the status as `log`
+/// does.
+pub fn watch_list<
+    F: Files<File = File> + Clock + RandomSource + AllocGlobal,
+    I: Pauses,
+    W: Write,
+    E: Write,
+>(rt: &F, asked: &List<'_>, pauses: &mut I, output: &mut W, errors: &mut E) -> u8 {
+    let place = asked.place;
+    let mut reports = Reports::new(rt.alloc(), place.at, errors);
+    if place.database().is_some() {
+        return match opened_view(rt, place) {
+            Ok(open) => {
+                let mut rows = LogRows::new(open);
+                let ended = print_lists(rt, asked, &mut rows, pauses, output);
+                report_end("row", rows.at(), ended, &mut reports)
+            }
+            Err(trouble) => report_refused(trouble, &mut reports),
+        };
+    }
+    match LogFile::open(rt, place.at) {
+        Ok(mut log) => {
+            let ended = print_lists(rt, asked, &mut log, pauses, output);
+            report_end("byte", log.at(), ended, &mut reports)
+        }
+        Err(fault) => report_refused(Trouble::Refused(fault), &mut reports),
+    }
+}
+
+fn print_lists<F: Files<File = File> + AllocGlobal, S: Source, I: Pauses, W: Write>(
+    rt: &F,
+    asked: &List<'_>,
+    source: &mut S,
+    pauses: &mut I,
+    output: &mut W,
+) -> Result<(), Stop> {
+    let alloc = rt.alloc();
+    let world = source.services(alloc)?;
+    let mut listing = Listing::new(rt, *asked, world);
+    follow(alloc, source, &mut listing, pauses, output)
 }
 
 /// Prints whether a log is sound, and gives the status: 0, 1 where it isn't, or 3 where it can't be read, the output

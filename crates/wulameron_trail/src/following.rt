@@ -213,6 +213,9 @@ pub trait Follows: Shows {
         next: &mut S,
         output: &mut W,
     ) -> Result<(), Stop>;
+
+    /// Shows what the entries that a look has found come to, where they aren't shown one by one.
+    fn settle<W: Write>(&mut self, alloc: Global, output: &mut W) -> Result<(), Stop>;
 }
 
 impl Follows for Lines {
@@ -229,6 +232,10 @@ impl Follows for Lines {
         self.from = 0;
         Ok(())
     }
+
+    fn settle<W: Write>(&mut self, _alloc: Global, _output: &mut W) -> Result<(), Stop> {
+        Ok(())
+    }
 }
 
 impl Follows for Changes {
@@ -240,6 +247,10 @@ impl Follows for Changes {
         _output: &mut W,
     ) -> Result<(), Stop> {
         self.world = next.services_of_snapshot(alloc)?;
+        Ok(())
+    }
+
+    fn settle<W: Write>(&mut self, _alloc: Global, _output: &mut W) -> Result<(), Stop> {
         Ok(())
     }
 }
@@ -282,7 +293,10 @@ pub fn follow<S: Source, P: Follows, I: Pauses, W: Write>(
     for _ in 0..u64::MAX {
         match look_on(alloc, source, shown, output) {
             Ok(true) => continue,
-            Ok(false) => damaged_at = None,
+            Ok(false) => {
+                damaged_at = None;
+                shown.settle(alloc, output)?;
+            }
             Err(stop) => {
                 if !goes_on || !is_passing(stop, source.at(), damaged_at) {
                     return Err(stop);

@@ -10,8 +10,10 @@
 //! nothing, or what a writer left that died (`IsSound`), and the world that they come to agrees
 //! (`checker::laws_of_checking`); what else it names is there,
 //! after a sound front (`IsVerdict`), but for an entry that isn't answered: any world meets that clause, and only
-//! tests show that no sound log is refused so. `print_verdict` writes its line (`WritesVerdictOf`). Of the loops that
-//! look at a file again, and go over to the file in which a log goes on, only that they are safe is proved.
+//! tests show that no sound log is refused so. `print_verdict` writes its line (`WritesVerdictOf`). Where services are
+//! listed anew, the private `listing::Listing::list_anew` prints the list of the world then, unless that is what was
+//! printed last (`ListsAnew`). Of the loops that look at a file again, and go over to the file in which a log goes on,
+//! only that they are safe is proved.
 #![tactic(auto)]
 
 pub mod changes;
@@ -20,6 +22,7 @@ pub mod commands;
 mod descriptions;
 pub mod entries;
 pub mod following;
+pub mod listing;
 pub mod pauses;
 pub mod printing;
 mod reading;

@@ -75,7 +75,11 @@ fn write_change(is_json: bool, change: Option<Change>, text: &mut String) -> Res
 }
 
 /// What following an entry comes to.
-fn follow_entry(alloc: Global, world: &mut StoredWorld, entry: &Entry) -> Result<(), ShowError>
+pub(crate) fn follow_entry(
+    alloc: Global,
+    world: &mut StoredWorld,
+    entry: &Entry,
+) -> Result<(), ShowError>
     ensures { OnOk result (IsFollowed world.old entry.now world.new) }
 {
     match follow(alloc, world, entry) {

@@ -22,8 +22,11 @@ use Rattle.wulameron_view.specs.declared.services.Services.{Services}
 use Rattle.wulameron_view.specs.declared.settings.Value.{Value}
 use Rattle.wulameron_view.specs.declared.settings.Value.TheVariants as value
 use Rattle.wulameron_view.specs.Settings.{Setting, settings_of}
+use Rattle.wulameron_view.specs.declared.states.NodeStanding.{NodeStanding}
+use Rattle.wulameron_view.specs.declared.states.Standing.{Standing}
+use Rattle.wulameron_view.specs.declared.states.Standing.TheVariants as standing
 use Rattle.wulameron_view.specs.States.{state_of}
-use Rattle.wulameron_view.specs.Nodes.{node_data, nodes_data}
+use Rattle.wulameron_view.specs.Nodes.{node_data, nodes_data, standing_alive}
 use Rattle.wulameron_view.specs.Data.{count_or_null, alive_data, member_data, service_data, creation_data, list_data, value_data, setting_data, with_settings, attribute_data, types_data, show_data}
 
 both : (a b : Bool) → a ≡ false → b ≡ false → (a || b) ≡ false
@@ -60,13 +63,13 @@ alive state.DoesNotExist = refl
 members : (states : List NodeStatus) (m : Member) → has_float (member_data states m) ≡ false
 members states m = both (has_float (alive_data (state_of states m.node))) false (alive (state_of states m.node)) refl
 
-services : (states : List NodeStatus) (s : Service) → has_float (service_data states s) ≡ false
+pub services : (states : List NodeStatus) (s : Service) → has_float (service_data states s) ≡ false
 services states s =
     let nodes = each (member_data states) (members states) s.members.items in
     both (has_float (count_or_null s.description.creator)) (items_have_float (items_of (map (member_data states) s.members.items)) || false)
     (counts s.description.creator) (both (items_have_float (items_of (map (member_data states) s.members.items))) false nodes refl)
 
-creations : (c : Creation) → has_float (creation_data c) ≡ false
+pub creations : (c : Creation) → has_float (creation_data c) ≡ false
 creations c = both (has_float (count_or_null c.node)) false (counts c.node) refl
 
 pub list_free : (states : List NodeStatus) (all : Services) → has_float (list_data states all) ≡ false
@@ -74,11 +77,17 @@ list_free states all =
     appended (map (service_data states) all.published.items) (map creation_data all.creations.items)
     (each (service_data states) (services states) all.published.items) (each creation_data creations all.creations.items)
 
-listed : (s : NodeStatus) → has_float (node_data s) ≡ false
-listed s = both (has_float (alive_data s.state)) false (alive s.state) refl
+stands : (s : Standing) → has_float (standing_alive s) ≡ false
+stands standing.Alive = refl
+stands standing.Dead = refl
+stands standing.Ended = refl
+stands standing.NeverClaimed = refl
 
-pub nodes_free : (states : List NodeStatus) → has_float (nodes_data states) ≡ false
-nodes_free states = each node_data listed states
+pub listed : (n : NodeStanding) → has_float (node_data n) ≡ false
+listed n = both (has_float (standing_alive n.standing)) false (stands n.standing) refl
+
+pub nodes_free : (nodes : List NodeStanding) → has_float (nodes_data nodes) ≡ false
+nodes_free nodes = each node_data listed nodes
 
 values : (v : Value) → has_float (value_data v) ≡ false
 values (value.Number n) = refl

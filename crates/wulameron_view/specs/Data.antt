@@ -1,5 +1,6 @@
 -- The services of a world as JSON. The keys of an object stand in alphabetical order.
 use Rattle.std.specs.Prelude.{ℕ, true, false, not, List, [], ◌∷◌, ◌++◌, map, Option, Some, None, codes}
+use Rattle.std.specs.List.{flat_map}
 use Rattle.hex.specs.Hex.{encode_lower}
 use Rattle.serde_json.specs.Data.{Data, null, boolean, number, unsigned, string, array, object}
 use Rattle.serde_json.specs.Data.{Members, no_members, member, put}
@@ -46,11 +47,17 @@ alive_data state.Alive = boolean true
 alive_data state.Dead = boolean false
 alive_data state.DoesNotExist = null
 
+abbrev pub state_data : NodeState → List ℕ
+state_data state.Alive = codes "alive"
+state_data state.Dead = codes "dead"
+state_data state.DoesNotExist = codes "never_claimed"
+
 abbrev pub member_data : List NodeStatus → Member → Data
 member_data states m = object (
     member (codes "alive") (alive_data (state_of states m.node))
     (member (codes "factories") (count m.factories)
-    (member (codes "node") (count m.node) no_members)))
+    (member (codes "node") (count m.node)
+    (member (codes "state") (string (state_data (state_of states m.node))) no_members))))
 
 -- ---- the list
 
@@ -86,6 +93,12 @@ creation_data c = object (
 abbrev pub list_data : List NodeStatus → Services → Data
 list_data states all = array (items_of (
     map (service_data states) all.published.items ++ map creation_data all.creations.items))
+
+-- The same, a line for each.
+abbrev pub list_lines : List NodeStatus → Services → List ℕ
+list_lines states all =
+    flat_map (λ s. json_line (service_data states s)) all.published.items
+    ++ flat_map (λ c. json_line (creation_data c)) all.creations.items
 
 -- ---- what was agreed
 

@@ -1,7 +1,9 @@
 pub mod Data
+pub mod Filters
 pub mod ListTexts
 pub mod Looking
 pub mod Nodes
+pub mod Patterns
 pub mod Services
 pub mod Settings
 pub mod ShowTexts

@@ -2,20 +2,22 @@
 use Rattle.std.specs.Prelude.{◌≡◌, ℕ, Bool, true, false, ◌&&◌, List, [], ◌∷◌, Option, Result, Ok, Err}
 use Rattle.std.specs.Prelude.{bytes_eq, nat_eq}
 use Rattle.std.specs.List.{filter}
-use Rattle.iceoryx2_description.specs.declared.description.MessagingPattern.{MessagingPattern}
-use Rattle.iceoryx2_description.specs.declared.description.MessagingPattern.TheVariants as pattern
 use Rattle.iceoryx2_journal.specs.Journal.{JournalState}
 use Rattle.wulameron_place.specs.Reading.{TakesOver}
 use Rattle.iceoryx2_log.specs.Log.{Contents}
 use Rattle.iceoryx2_monitoring.specs.declared.state.NodeStatus.{NodeStatus}
 use Rattle.iceoryx2_world.specs.World.{World}
 use Rattle.negotiate_serve.specs.Outputs.{Writes}
-use Rattle.wulameron_arguments.specs.declared.asked.Pattern.{Pattern}
-use Rattle.wulameron_arguments.specs.declared.asked.Pattern.TheVariants as kind
+use Rattle.wulameron_arguments.specs.declared.asked.Form.{Form}
+use Rattle.wulameron_arguments.specs.declared.asked.Form.TheVariants as form
+use Rattle.wulameron_arguments.specs.declared.asked.Listed.{Listed}
+use Rattle.wulameron_arguments.specs.declared.asked.Shown.{Shown}
 use Rattle.wulameron_arguments.specs.declared.asked.Wanted.{Wanted}
 use Rattle.wulameron_arguments.specs.declared.asked.Wanted.TheVariants as wanted
-use Rattle.wulameron_view.specs.Data.{json_line, list_data, show_data}
-use Rattle.wulameron_view.specs.ListTexts.{list_text}
+use Rattle.wulameron_view.specs.Data.{json_line, list_data, list_lines, show_data}
+use Rattle.wulameron_view.specs.Filters.{AreThose}
+use Rattle.wulameron_view.specs.ListTexts.{list_text, names_text}
+use Rattle.wulameron_view.specs.Patterns.{is_of}
 use Rattle.wulameron_view.specs.Services.{AreServicesOf}
 use Rattle.wulameron_view.specs.ShowTexts.{show_text}
 use Rattle.wulameron_view.specs.declared.services.Service.{Service}
@@ -25,12 +27,6 @@ use Rattle.wulameron_view.specs.declared.looking.LookError.TheVariants as look
 
 -- ---- which one
 
-abbrev pub is_of : Pattern → MessagingPattern → Bool
-is_of kind.Event (pattern.Event s) = true
-is_of kind.PublishSubscribe (pattern.PublishSubscribe s) = true
-is_of kind.RequestResponse (pattern.RequestResponse s) = true
-is_of _ _ = false
-
 abbrev pub is_wanted : Wanted → Service → Bool
 is_wanted (wanted.Named name) s = bytes_eq s.description.name name.now
 is_wanted (wanted.OfPattern name p) s = bytes_eq s.description.name name.now && is_of p s.description.pattern
@@ -38,30 +34,42 @@ is_wanted (wanted.Numbered n) s = nat_eq s.number n
 
 -- ---- the texts
 
--- a table, or JSON
-abbrev pub list_printed : (json : Bool) → List NodeStatus → Services → List ℕ
-list_printed true states all = json_line (list_data states all)
-list_printed false states all = list_text all
+-- a table, names, or JSON
+abbrev pub list_in : Form → (colours : Bool) → (most : Option ℕ) → List NodeStatus → Services → List ℕ
+list_in form.Text colours most states all = list_text colours most states all
+list_in form.Names colours most states all = names_text all
+list_in form.Json colours most states all = json_line (list_data states all)
+list_in form.JsonLines colours most states all = list_lines states all
+
+abbrev pub list_printed : Listed → List NodeStatus → Services → List ℕ
+list_printed l states all = list_in l.shown.form l.shown.is_coloured l.width states all
 
 -- lines, or JSON
-abbrev pub show_printed : (json : Bool) → List NodeStatus → Service → List ℕ
-show_printed true states s = json_line (show_data states s)
-show_printed false states s = show_text states s
+abbrev pub show_in : Form → (colours : Bool) → List NodeStatus → Service → List ℕ
+show_in form.Text colours states s = show_text colours states s
+show_in form.Names colours states s = show_text colours states s
+show_in form.Json colours states s = json_line (show_data states s)
+show_in form.JsonLines colours states s = json_line (show_data states s)
 
--- It is what is printed of the services of this world.
-pub record IsListed (json : Bool) (states : List NodeStatus) (w : World) (text : List ℕ) : Type 0 where
+abbrev pub show_printed : Shown → List NodeStatus → Service → List ℕ
+show_printed shown states s = show_in shown.form shown.is_coloured states s
+
+-- It is what is printed of those services of this world that are asked for.
+pub record IsListed (listed : Listed) (states : List NodeStatus) (w : World) (text : List ℕ) : Type 0 where
   pub services : Services
   pub are : AreServicesOf w services
-  pub is : text ≡ list_printed json states services
+  pub listed_ones : Services
+  pub those : AreThose listed.filter services listed_ones
+  pub is : text ≡ list_printed listed states listed_ones
 
 -- It is what is printed of the one service of this world that is wanted.
-pub record IsShown (json : Bool) (states : List NodeStatus) (w : World) (which : Wanted) (text : List ℕ)
+pub record IsShown (shown : Shown) (states : List NodeStatus) (w : World) (which : Wanted) (text : List ℕ)
     : Type 0 where
   pub services : Services
   pub are : AreServicesOf w services
   pub service : Service
   pub only : filter (is_wanted which) services.published.items ≡ service ∷ []
-  pub is : text ≡ show_printed json states service
+  pub is : text ≡ show_printed shown states service
 
 -- So many are wanted of the services of this world.
 pub record Wants (w : World) (which : Wanted) (Fits : List Service → Type 0) : Type 0 where

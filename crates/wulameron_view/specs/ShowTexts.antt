@@ -1,5 +1,5 @@
 -- All that is known of a service, line by line.
-use Rattle.std.specs.Prelude.{ℕ, Bool, true, false, List, [], ◌++◌, length, Option, Some, None, codes, decimal}
+use Rattle.std.specs.Prelude.{ℕ, Bool, true, false, ◌&&◌, List, [], ◌++◌, length, Option, Some, None, codes, decimal}
 use Rattle.std.specs.List.{flat_map}
 use Rattle.hex.specs.Hex.{encode_lower}
 use Rattle.iceoryx2_attribute.specs.Attributes.{Pair}
@@ -10,8 +10,6 @@ use Rattle.iceoryx2_description.specs.Span.{Span}
 use Rattle.iceoryx2_description.specs.declared.description.MessagingPattern.{MessagingPattern}
 use Rattle.iceoryx2_description.specs.declared.description.MessagingPattern.TheVariants as pattern
 use Rattle.iceoryx2_description.specs.declared.request_response.StaticConfig.{StaticConfig as RequestSettings}
-use Rattle.iceoryx2_monitoring.specs.declared.state.NodeState.{NodeState}
-use Rattle.iceoryx2_monitoring.specs.declared.state.NodeState.TheVariants as state
 use Rattle.iceoryx2_monitoring.specs.declared.state.NodeStatus.{NodeStatus}
 use Rattle.wulameron_view.specs.declared.services.Member.{Member}
 use Rattle.wulameron_view.specs.declared.services.Service.{Service}
@@ -20,7 +18,8 @@ use Rattle.wulameron_view.specs.declared.settings.Value.TheVariants as value
 use Rattle.negotiate_lines.specs.Escapes.{escaped}
 use Rattle.wulameron_view.specs.ListTexts.{node_or_dash, pattern_term}
 use Rattle.wulameron_view.specs.Settings.{Setting, settings_of}
-use Rattle.wulameron_view.specs.States.{state_of}
+use Rattle.wulameron_view.specs.States.{is_dead, state_of, state_word}
+use Rattle.wulameron_view.specs.Tables.{red}
 
 -- ---- the service
 
@@ -108,18 +107,13 @@ unfoldable pub room_line : Service → List ℕ
 room_line s =
     codes "nodes: " ++ (decimal (length s.members.items) ++ (codes "/" ++ (decimal s.max_nodes ++ codes "\n")))
 
-abbrev pub state_text : NodeState → List ℕ
-state_text state.Alive = codes "alive"
-state_text state.Dead = codes "dead"
-state_text state.DoesNotExist = codes "never claimed"
+unfoldable pub factories_text : Member → List ℕ
+factories_text m = codes "node " ++ (decimal m.node ++ (codes ": " ++ (decimal m.factories ++ codes " factories, ")))
 
-unfoldable pub member_with : (state : List ℕ) → Member → List ℕ
-member_with state m =
-    codes "node " ++ (decimal m.node ++ (codes ": " ++ (decimal m.factories
-    ++ (codes " factories, " ++ (state ++ codes "\n")))))
-
-abbrev pub member_line : List NodeStatus → Member → List ℕ
-member_line states m = member_with (state_text (state_of states m.node)) m
+-- that it is dead is red
+abbrev pub member_line : (colours : Bool) → List NodeStatus → Member → List ℕ
+member_line colours states m =
+    factories_text m ++ (red (colours && is_dead states m.node) (state_word (state_of states m.node)) ++ codes "\n")
 
 unfoldable pub explanation : List ℕ
 explanation = codes "* differs from the default of a create\n"
@@ -135,6 +129,7 @@ agreed_lines s =
     ++ flat_map attribute_line s.description.attributes)
 
 -- The service, what was agreed, who is in it, and what the mark means.
-abbrev pub show_text : List NodeStatus → Service → List ℕ
-show_text states s =
-    head_lines s ++ (agreed_lines s ++ (room_line s ++ (flat_map (member_line states) s.members.items ++ explanation)))
+abbrev pub show_text : (colours : Bool) → List NodeStatus → Service → List ℕ
+show_text colours states s =
+    head_lines s ++ (agreed_lines s ++ (room_line s
+    ++ (flat_map (member_line colours states) s.members.items ++ explanation)))

@@ -4,7 +4,7 @@ ghost use Rattle.std.specs.Prelude.{◌≡◌, ◌++◌, IfOk, OnOk, false, stri
 ghost use Rattle.serde_json.specs.View.{view};
 ghost use Rattle.serde_json.specs.Written.{has_float};
 ghost use Rattle.wulameron_view.specs.Data.{alive_data, array_of, count_or_null, json_line, member_data, pattern_word};
-ghost use Rattle.wulameron_view.specs.Data.{service_data};
+ghost use Rattle.wulameron_view.specs.Data.{service_data, state_data};
 
 use crate::services::{Member, Service};
 use crate::states::state_of;
@@ -77,8 +77,14 @@ fn members_value(
 fn member_value(alloc: Global, states: &[NodeStatus], member: &Member) -> Result<Value, AllocError>
     ensures { IfOk result (λ v. view v ≡ member_data states.now member.now) }
 {
-    let alive = alive_value(state_of(states, member.node));
-    json!(in alloc; {"alive": alive, "factories": member.factories, "node": member.node})
+    let state = state_of(states, member.node);
+    let alive = alive_value(state);
+    json!(in alloc; {
+        "alive": alive,
+        "factories": member.factories,
+        "node": member.node,
+        "state": word_of_state(state),
+    })
 }
 
 /// Whether a node is alive, and `null` for one that was never claimed.
@@ -89,6 +95,17 @@ pub(crate) fn alive_value(state: NodeState) -> Value
         NodeState::Alive => Value::Bool(true),
         NodeState::Dead => Value::Bool(false),
         NodeState::DoesNotExist => Value::Null,
+    }
+}
+
+/// Whether a node is alive, in a word of JSON.
+fn word_of_state(state: NodeState) -> &'static str
+    ensures { result.now ≡ state_data state }
+{
+    match state {
+        NodeState::Alive => "alive",
+        NodeState::Dead => "dead",
+        NodeState::DoesNotExist => "never_claimed",
     }
 }
 

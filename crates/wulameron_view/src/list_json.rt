@@ -2,7 +2,8 @@
 
 ghost use Rattle.std.specs.Prelude.{◌≡◌, ◌++◌, IfOk, OnOk, map, string_bytes};
 ghost use Rattle.serde_json.specs.View.{view};
-ghost use Rattle.wulameron_view.specs.Data.{creation_data, json_line, list_data, service_data};
+ghost use Rattle.std.specs.List.{flat_map};
+ghost use Rattle.wulameron_view.specs.Data.{creation_data, json_line, list_data, list_lines, service_data};
 
 use crate::json::{count_value, service_value, write_value};
 use crate::services::{Creation, Service, Services};
@@ -21,6 +22,67 @@ pub fn list_json(
         ≡ string_bytes text.old ++ json_line (list_data states.now services.now)) }
 {
     let value = list_value(*text.allocator(), states, services)?;
+    write_value(&value, text)
+}
+
+/// Writes an object for each service, in the same order, a line each. `AllocError` where there is no memory; a front of
+/// it may then be written.
+pub fn list_json_lines(
+    states: &[NodeStatus],
+    services: &Services,
+    text: &mut String,
+) -> Result<(), AllocError>
+    ensures { OnOk result (string_bytes text.new ≡ string_bytes text.old ++ list_lines states.now services.now) }
+{
+    write_services(states, &services.published, text)?;
+    write_creations(&services.creations, text)
+}
+
+/// Writes a line for each service that is published.
+fn write_services(
+    states: &[NodeStatus],
+    services: &[Service],
+    text: &mut String,
+) -> Result<(), AllocError>
+    ensures { OnOk result (string_bytes text.new
+        ≡ string_bytes text.old ++ flat_map (λ s. json_line (service_data states.now s)) services.now) }
+{
+    for service in services {
+        write_service(states, service, text)?;
+    }
+    Ok(())
+}
+
+/// Writes the line of a service that is published.
+fn write_service(
+    states: &[NodeStatus],
+    service: &Service,
+    text: &mut String,
+) -> Result<(), AllocError>
+    ensures { OnOk result (string_bytes text.new
+        ≡ string_bytes text.old ++ json_line (service_data states.now service.now)) }
+{
+    let value = service_value(*text.allocator(), states, service)?;
+    write_value(&value, text)
+}
+
+/// Writes a line for each service that is being created.
+fn write_creations(creations: &[Creation], text: &mut String) -> Result<(), AllocError>
+    ensures { OnOk result (string_bytes text.new
+        ≡ string_bytes text.old ++ flat_map (λ c. json_line (creation_data c)) creations.now) }
+{
+    for creation in creations {
+        write_creation(creation, text)?;
+    }
+    Ok(())
+}
+
+/// Writes the line of a service that is being created.
+fn write_creation(creation: &Creation, text: &mut String) -> Result<(), AllocError>
+    ensures { OnOk result (string_bytes text.new
+        ≡ string_bytes text.old ++ json_line (creation_data creation.now)) }
+{
+    let value = creation_value(*text.allocator(), creation)?;
     write_value(&value, text)
 }
 

@@ -1,18 +1,29 @@
 //! The services of a world as a table.
 
-ghost use Rattle.std.specs.Prelude.{◌≡◌, ◌++◌, IfOk, OnOk, codes, decimal, map, string_bytes};
+ghost use Rattle.std.specs.Prelude.{◌≡◌, ◌≤◌, ◌++◌, IfOk, OnOk, codes, decimal, length, map, string_bytes};
 ghost use Rattle.std.specs.List.{flat_map};
-ghost use Rattle.wulameron_view.specs.ListTexts.{cell_of, cell_text, creation_cells, header};
-ghost use Rattle.wulameron_view.specs.ListTexts.{line_text, list_cells, list_text as list_text_of, node_or_dash};
-ghost use Rattle.wulameron_view.specs.ListTexts.{pattern_term, service_cells, widths_of as widths_of_spec};
+ghost use Rattle.wulameron_view.specs.ListTexts.{cell_of, cell_text, count_lines, creation_cells, dead_line};
+ghost use Rattle.wulameron_view.specs.ListTexts.{dead_mark, fitted as fitted_of, header, line_text, list_cells};
+ghost use Rattle.wulameron_view.specs.ListTexts.{list_text as list_text_of, name_text, names_text, node_or_dash};
+ghost use Rattle.wulameron_view.specs.ListTexts.{dead_creations, dead_published, padded_cells, pattern_term};
+ghost use Rattle.wulameron_view.specs.ListTexts.{rest_of_line, room_for, service_cells, service_name, table_text};
+ghost use Rattle.wulameron_view.specs.ListTexts.{widths_of as widths_of_spec, with_dead};
 ghost use Rattle.wulameron_view.specs.Tables.{width_of};
 
 use crate::services::{Creation, Service, Services};
-use crate::table::{columns, write_padded};
+use crate::states::{dead_count, dead_holders};
+use crate::table::{columns, cut, write_padded, write_red};
 use iceoryx2_description::description::MessagingPattern;
-use negotiate_lines::escape::escaped_text;
+use iceoryx2_monitoring::state::NodeStatus;
+use negotiate_lines::escape::{escape, escaped_text};
 use std::alloc::{AllocError, Global};
 use std::marker::Model;
+
+/// How many columns of a name are never cut.
+const LEAST: usize = 8;
+
+/// How many columns divide the cells of a line.
+const GAPS: usize = 8;
 
 /// The cells of a line.
 #[derive(Drop)]
@@ -22,6 +33,8 @@ struct Line {
     nodes: String,
     creator: String,
     number: String,
+    /// How many of its nodes are dead, where some are.
+    mark: String,
 }
 
 impl Model for Line {
@@ -36,25 +49,30 @@ impl Model for Line {
       nodes = string_bytes l.nodes;
       creator = string_bytes l.creator;
       number = string_bytes l.number;
+      mark = string_bytes l.mark;
     } };
 }
 
-/// A column that is padded.
+/// A column. The last two aren't padded.
 #[derive(Clone, Copy)]
 enum Column {
     Pattern,
     Name,
     Nodes,
     Creator,
+    Number,
+    Mark,
 }
 
-/// How wide the padded columns are.
+/// How wide the columns are.
 #[derive(Clone, Copy)]
 struct Widths {
     pattern: usize,
     name: usize,
     nodes: usize,
     creator: usize,
+    number: usize,
+    mark: usize,
 }
 
 impl Line {
@@ -67,14 +85,9 @@ impl Line {
             Column::Name => &self.name,
             Column::Nodes => &self.nodes,
             Column::Creator => &self.creator,
+            Column::Number => &self.number,
+            Column::Mark => &self.mark,
         }
-    }
-
-    /// What stands after the columns.
-    fn number(&self) -> &str
-        ensures { result.now ≡ self.now.number }
-    {
-        &self.number
     }
 
     /// The names of the columns.
@@ -87,71 +100,152 @@ impl Line {
             nodes: String::from_str(alloc, "NODES")?,
             creator: String::from_str(alloc, "CREATOR")?,
             number: String::from_str(alloc, "NUMBER")?,
+            mark: String::new(alloc),
         })
     }
 
     /// The line of a service that is published.
-    fn of_service(alloc: Global, service: &Service) -> Result<Line, AllocError>
-        ensures { IfOk result (λ line. line ≡ service_cells service.now) }
+    fn of_service(
+        alloc: Global,
+        states: &[NodeStatus],
+        service: &Service,
+    ) -> Result<Line, AllocError>
+        ensures { IfOk result (λ line. line ≡ service_cells states.now service.now) }
     {
         let term = term_of(service.description.messaging_pattern());
         let nodes = service.members.len();
+        let dead = dead_count(states, &service.members);
         Ok(Line {
             pattern: String::from_str(alloc, term)?,
             name: escaped_text(alloc, service.description.name().as_str())?,
             nodes: ratio(alloc, nodes, service.max_nodes)?,
             creator: node_text(alloc, service.description.creator())?,
             number: number_text(alloc, service.number, "")?,
+            mark: mark(alloc, dead)?,
         })
     }
 
     /// The line of a service that is being created.
-    fn of_creation(alloc: Global, creation: &Creation) -> Result<Line, AllocError>
-        ensures { IfOk result (λ line. line ≡ creation_cells creation.now) }
+    fn of_creation(
+        alloc: Global,
+        states: &[NodeStatus],
+        creation: &Creation,
+    ) -> Result<Line, AllocError>
+        ensures { IfOk result (λ line. line ≡ creation_cells states.now creation.now) }
     {
+        let dead = dead_holders(states, creation);
         Ok(Line {
             pattern: String::from_str(alloc, "-")?,
             name: creation.hash.to_text(alloc)?,
             nodes: String::from_str(alloc, "-")?,
             creator: node_text(alloc, creation.node)?,
             number: number_text(alloc, creation.number, "  being created")?,
+            mark: mark(alloc, dead)?,
         })
     }
 }
 
 /// Writes the services as a table: a header, a line for each service, those that are being created last, and how many
-/// they are. Columns are two spaces apart, and as wide as their widest cell in columns of a terminal. `AllocError`
-/// where there is no memory; a front of it may then be written.
-pub fn list_text(services: &Services, text: &mut String) -> Result<(), AllocError>
-    ensures { OnOk result (string_bytes text.new ≡ string_bytes text.old ++ list_text_of services.now) }
+/// they are; and where nodes of some are dead how many these are, and what gives back what such nodes have. Columns are
+/// two spaces apart, and as wide as their widest cell in columns of a terminal. Names are cut so that a line has at most
+/// so many columns, where that is asked for, but not to fewer than eight. Where colours are asked for, what has dead
+/// nodes is red. `AllocError` where there is no memory; a front of it may then be written.
+pub fn list_text(
+    is_coloured: bool,
+    most: Option<u64>,
+    states: &[NodeStatus],
+    services: &Services,
+    text: &mut String,
+) -> Result<(), AllocError>
+    ensures { OnOk result (string_bytes text.new
+        ≡ string_bytes text.old ++ list_text_of is_coloured most states.now services.now) }
 {
-    let lines = lines_of(*text.allocator(), services)?;
-    write_lines(&lines, text)?;
+    let lines = lines_of(*text.allocator(), states, services)?;
+    write_lines(is_coloured, most, &lines, text)?;
+    write_counts(states, services, text)
+}
+
+/// Writes how many services there are, and how many have dead nodes.
+fn write_counts(
+    states: &[NodeStatus],
+    services: &Services,
+    text: &mut String,
+) -> Result<(), AllocError>
+    ensures { OnOk result (string_bytes text.new ≡ string_bytes text.old ++ count_lines states.now services.now) }
+{
     let count = services.published.len() + services.creations.len();
-    writeln!(text, "{count} services")
+    writeln!(text, "{count} services")?;
+    write_dead(dead_services(states, services), text)
+}
+
+/// How many services have dead nodes.
+fn dead_services(states: &[NodeStatus], services: &Services) -> usize
+    ensures { result ≡ with_dead states.now services.now }
+{
+    dead_published(states, &services.published) + dead_creations(states, &services.creations)
+}
+
+/// How many published services have dead nodes.
+fn dead_published(states: &[NodeStatus], services: &[Service]) -> usize
+    ensures is { result ≡ dead_published states.now services.now }
+    ensures bound { result ≤ length services.now }
+{
+    services
+        .iter()
+        .filter(|service| dead_count(states, &service.members) > 0)
+        .count()
+}
+
+/// Of how many services that are being created the holder is dead.
+fn dead_creations(states: &[NodeStatus], creations: &[Creation]) -> usize
+    ensures is { result ≡ dead_creations states.now creations.now }
+    ensures bound { result ≤ length creations.now }
+{
+    creations
+        .iter()
+        .filter(|creation| dead_holders(states, creation) > 0)
+        .count()
+}
+
+/// Writes that so many services have dead nodes, where there are some.
+fn write_dead(count: usize, text: &mut String) -> Result<(), AllocError>
+    ensures { OnOk result (string_bytes text.new ≡ string_bytes text.old ++ dead_line count) }
+{
+    if count == 0 {
+        return Ok(());
+    }
+    writeln!(
+        text,
+        "{count} with dead nodes; `wulameron clean` gives back what they have"
+    )
 }
 
 /// The cells of all lines.
-fn lines_of(alloc: Global, services: &Services) -> Result<Vec<Line>, AllocError>
-    ensures { IfOk result (λ lines. lines.items ≡ list_cells services.now) }
+fn lines_of(
+    alloc: Global,
+    states: &[NodeStatus],
+    services: &Services,
+) -> Result<Vec<Line>, AllocError>
+    ensures { IfOk result (λ lines. lines.items ≡ list_cells states.now services.now) }
 {
     let mut lines = Vec::new(alloc);
     lines.push(Line::header(alloc)?)?;
-    add_services(alloc, &services.published, &mut lines)?;
-    add_creations(alloc, &services.creations, &mut lines)?;
+    add_services(alloc, states, &services.published, &mut lines)?;
+    add_creations(alloc, states, &services.creations, &mut lines)?;
     Ok(lines)
 }
 
 /// Adds the lines of services that are published.
 fn add_services(
     alloc: Global,
+    states: &[NodeStatus],
     services: &[Service],
     lines: &mut Vec<Line>,
 ) -> Result<(), AllocError>
-    ensures { OnOk result (lines.new.items ≡ lines.old.items ++ map service_cells services.now) }
+    ensures { OnOk result (lines.new.items ≡ lines.old.items ++ map (service_cells states.now) services.now) }
 {
     for service in services {
-        lines.push(Line::of_service(alloc, service)?)?;
+        lines.push(Line::of_service(alloc, states, service)?)?;
     }
     Ok(())
 }
@@ -159,25 +253,30 @@ fn add_services(
 /// Adds the lines of services that are being created.
 fn add_creations(
     alloc: Global,
+    states: &[NodeStatus],
     creations: &[Creation],
     lines: &mut Vec<Line>,
 ) -> Result<(), AllocError>
-    ensures { OnOk result (lines.new.items ≡ lines.old.items ++ map creation_cells creations.now) }
+    ensures { OnOk result (lines.new.items ≡ lines.old.items ++ map (creation_cells states.now) creations.now) }
 {
     for creation in creations {
-        lines.push(Line::of_creation(alloc, creation)?)?;
+        lines.push(Line::of_creation(alloc, states, creation)?)?;
     }
     Ok(())
 }
 
-/// Writes all lines. It goes over them five times: once for each column's width, and once to write them.
-fn write_lines(lines: &[Line], text: &mut String) -> Result<(), AllocError>
-    ensures { OnOk result (string_bytes text.new
-        ≡ string_bytes text.old ++ flat_map (line_text (widths_of_spec lines.now)) lines.now) }
+/// Writes all lines. It goes over them seven times: once for each column's width, and once to write them.
+fn write_lines(
+    is_coloured: bool,
+    most: Option<u64>,
+    lines: &[Line],
+    text: &mut String,
+) -> Result<(), AllocError>
+    ensures { OnOk result (string_bytes text.new ≡ string_bytes text.old ++ table_text is_coloured most lines.now) }
 {
-    let widths = widths_of(lines);
+    let widths = fitted(most, widths_of(lines));
     for line in lines {
-        write_line(widths, line, text)?;
+        write_line(is_coloured, widths, line, text)?;
     }
     Ok(())
 }
@@ -191,19 +290,68 @@ fn widths_of(lines: &[Line]) -> Widths
         name: widest(lines, Column::Name),
         nodes: widest(lines, Column::Nodes),
         creator: widest(lines, Column::Creator),
+        number: widest(lines, Column::Number),
+        mark: widest(lines, Column::Mark),
     }
 }
 
+/// These widths, with names cut so that a line has at most so many columns.
+fn fitted(most: Option<u64>, widths: Widths) -> Widths
+    ensures { result ≡ fitted_of most widths }
+{
+    match most {
+        None => widths,
+        Some(most) => Widths {
+            name: widths.name.min(room_for(most, widths).max(LEAST)),
+            ..widths
+        },
+    }
+}
+
+/// How many of so many columns the other columns leave for names.
+fn room_for(most: u64, widths: Widths) -> usize
+    ensures { result ≡ room_for most widths }
+{
+    let padded = (most as usize)
+        .saturating_sub(GAPS)
+        .saturating_sub(widths.pattern)
+        .saturating_sub(widths.nodes)
+        .saturating_sub(widths.creator);
+    padded
+        .saturating_sub(widths.number)
+        .saturating_sub(widths.mark)
+}
+
 /// Writes a line, padded to these widths.
-fn write_line(widths: Widths, line: &Line, text: &mut String) -> Result<(), AllocError>
-    ensures { OnOk result (string_bytes text.new ≡ string_bytes text.old ++ line_text widths line.now) }
+fn write_line(
+    is_coloured: bool,
+    widths: Widths,
+    line: &Line,
+    text: &mut String,
+) -> Result<(), AllocError>
+    ensures { OnOk result (string_bytes text.new ≡ string_bytes text.old ++ line_text is_coloured widths line.now) }
+{
+    write_cells(widths, line, text)?;
+    write_rest(is_coloured, line, text)
+}
+
+/// Writes the cells that are padded.
+fn write_cells(widths: Widths, line: &Line, text: &mut String) -> Result<(), AllocError>
+    ensures { OnOk result (string_bytes text.new ≡ string_bytes text.old ++ padded_cells widths line.now) }
 {
     write_cell(line.cell(Column::Pattern), widths.pattern, text)?;
-    write_cell(line.cell(Column::Name), widths.name, text)?;
+    write_name(line.cell(Column::Name), widths.name, text)?;
     write_cell(line.cell(Column::Nodes), widths.nodes, text)?;
-    write_cell(line.cell(Column::Creator), widths.creator, text)?;
-    let number = line.number();
-    writeln!(text, "{number}")
+    write_cell(line.cell(Column::Creator), widths.creator, text)
+}
+
+/// Writes what stands behind them.
+fn write_rest(is_coloured: bool, line: &Line, text: &mut String) -> Result<(), AllocError>
+    ensures { OnOk result (string_bytes text.new ≡ string_bytes text.old ++ rest_of_line is_coloured line.now) }
+{
+    text.push_str(line.cell(Column::Number))?;
+    write_red(is_coloured, line.cell(Column::Mark), text)?;
+    text.push_str("\n")
 }
 
 /// Writes a cell and what separates it from the next one.
@@ -212,6 +360,14 @@ fn write_cell(cell: &str, width: usize, text: &mut String) -> Result<(), AllocEr
 {
     write_padded(cell, width, text)?;
     text.push_str("  ")
+}
+
+/// Writes a name, which is cut where its column is narrower.
+fn write_name(name: &str, width: usize, text: &mut String) -> Result<(), AllocError>
+    ensures { OnOk result (string_bytes text.new ≡ string_bytes text.old ++ name_text width name.now) }
+{
+    let cut = cut(*text.allocator(), width, name)?;
+    write_cell(&cut, width, text)
 }
 
 /// The width of a column's widest cell.
@@ -224,6 +380,29 @@ fn widest(lines: &[Line], column: Column) -> usize
     }
     widest
 }
+
+// ---- names alone
+
+/// Writes the name of each service that is published, a line each, without control characters. `AllocError` where there
+/// is no memory; a front of it may then be written.
+pub fn list_names(services: &Services, text: &mut String) -> Result<(), AllocError>
+    ensures { OnOk result (string_bytes text.new ≡ string_bytes text.old ++ names_text services.now) }
+{
+    write_names(&services.published, text)
+}
+
+/// Writes a line for each service.
+fn write_names(services: &[Service], text: &mut String) -> Result<(), AllocError>
+    ensures { OnOk result (string_bytes text.new ≡ string_bytes text.old ++ flat_map service_name services.now) }
+{
+    for service in services {
+        escape(service.description.name().as_str(), text)?;
+        text.push_str("\n")?;
+    }
+    Ok(())
+}
+
+// ---- cells
 
 /// The term by which a pattern's command lines begin.
 pub fn term_of(pattern: &MessagingPattern) -> &'static str
@@ -251,7 +430,7 @@ fn node_text(alloc: Global, node: Option<u64>) -> Result<String, AllocError>
 {
     match node {
         None => String::from_str(alloc, "-"),
-        Some(node) => number_text(alloc, node, ""),
+        Some(node) => format!(in alloc; "{node}"),
     }
 }
 
@@ -262,4 +441,14 @@ fn number_text(alloc: Global, number: u64, after: &str) -> Result<String, AllocE
     let mut text = String::new(alloc);
     write!(text, "{number}{after}")?;
     Ok(text)
+}
+
+/// That so many nodes are dead, where some are.
+fn mark(alloc: Global, dead: usize) -> Result<String, AllocError>
+    ensures { IfOk result (λ text. string_bytes text ≡ dead_mark dead) }
+{
+    if dead == 0 {
+        return Ok(String::new(alloc));
+    }
+    format!(in alloc; "  {dead} dead")
 }

@@ -2,15 +2,21 @@
 
 ghost use Rattle.std.specs.Prelude.{◌≡◌, IfErr, IfOk, string_bytes};
 ghost use Rattle.std.specs.List.{filter};
+ghost use Rattle.wulameron_view.specs.Filters.{AreThose, has_part, is_open, passes};
 ghost use Rattle.wulameron_view.specs.Looking.{IsListed, IsShown, IsUnshown, LooksAt, NeverUnshown};
-ghost use Rattle.wulameron_view.specs.Looking.{KeepsWhy, WritesMade, is_of, is_wanted as is_wanted_spec};
+ghost use Rattle.wulameron_view.specs.Looking.{KeepsWhy, WritesMade, is_wanted as is_wanted_spec};
 ghost use Rattle.wulameron_view.specs.Looking.{list_printed, look_status, show_printed};
+ghost use Rattle.wulameron_view.specs.Nodes.{AreNodes, nodes_in as nodes_text_of};
+ghost use Rattle.wulameron_view.specs.Patterns.{is_of};
 
-use crate::list_json::list_json;
-use crate::list_text::list_text;
+use crate::list_json::{list_json, list_json_lines};
+use crate::list_text::{list_names, list_text};
+use crate::nodes_json::{nodes_json, nodes_json_lines};
+use crate::nodes_text::{node_numbers, nodes_text};
 use crate::services::{Service, Services, services_of};
 use crate::show_json::show_json;
 use crate::show_text::show_text;
+use crate::states::{NodeStanding, standings};
 use iceoryx2_description::description::MessagingPattern;
 use iceoryx2_journal::journal::Journal;
 use iceoryx2_monitoring::state::NodeStatus;
@@ -19,7 +25,7 @@ use negotiate_serve::ending::{DONE, FAULT, ServeError};
 use negotiate_serve::output::write_out;
 use std::alloc::{AllocError, Global};
 use std::io::Write;
-use wulameron_arguments::asked::{Pattern, Wanted};
+use wulameron_arguments::asked::{Filter, Form, Listed, Pattern, Shown, Wanted};
 use wulameron_place::reading::take_over;
 use wulameron_place::trouble::Refusing;
 
@@ -98,6 +104,55 @@ fn keep_wanted(wanted: Wanted<'_>, services: &mut Vec<Service>)
     services.retain(|service| is_wanted(wanted, service));
 }
 
+// ---- which ones
+
+/// Whether a part stands in a name.
+fn has_part(name: &str, part: &str) -> bool
+    ensures { result ≡ has_part name.now part.now }
+{
+    name.contains(part)
+}
+
+/// Whether the service is asked for.
+fn passes(filter: Filter<'_>, service: &Service) -> bool
+    ensures { result ≡ passes filter.entry service.now }
+{
+    let is_named = match filter.text {
+        None => true,
+        Some(text) => has_part(service.description.name().as_str(), text),
+    };
+    let is_of = match filter.pattern {
+        None => true,
+        Some(pattern) => is_of_pattern(pattern, service.description.messaging_pattern()),
+    };
+    is_named && is_of
+}
+
+/// Whether neither a text nor a pattern is asked for.
+fn is_open(filter: Filter<'_>) -> bool
+    ensures { result ≡ is_open filter.entry }
+{
+    filter.text.is_none() && filter.pattern.is_none()
+}
+
+/// Leaves those that are asked for, in their order.
+fn keep_listed(filter: Filter<'_>, services: Services) -> Services
+    ensures { AreThose filter.entry services result }
+{
+    let Services {
+        mut published,
+        mut creations,
+    } = services;
+    published.retain(|service| passes(filter, service));
+    if !is_open(filter) {
+        creations.clear();
+    }
+    Services {
+        published,
+        creations,
+    }
+}
+
 // ---- the texts
 
 /// What is printed of these services.
@@ -105,31 +160,41 @@ fn list_all(
     alloc: Global,
     states: &[NodeStatus],
     services: &Services,
-    is_json: bool,
+    listed: Listed<'_>,
 ) -> Result<String, AllocError>
-    ensures { IfOk result (λ text. string_bytes text ≡ list_printed is_json states.now services.now) }
+    ensures { IfOk result (λ text. string_bytes text ≡ list_printed listed.entry states.now services.now) }
 {
     let mut text = String::new(alloc);
-    if is_json {
-        list_json(states, services, &mut text)?;
-    } else {
-        list_text(services, &mut text)?;
+    match listed.shown.form {
+        Form::Text => {
+            list_text(
+                listed.shown.is_coloured,
+                listed.width,
+                states,
+                services,
+                &mut text,
+            )?
+        }
+        Form::Names => list_names(services, &mut text)?,
+        Form::Json => list_json(states, services, &mut text)?,
+        Form::JsonLines => list_json_lines(states, services, &mut text)?,
     }
     Ok(text)
 }
 
 /// What is printed of the services of a world. `Failed(OutOfMemory)` where there is no memory.
-fn list_in(
+pub fn list_in(
     alloc: Global,
     states: &[NodeStatus],
     world: &StoredWorld,
-    is_json: bool,
+    listed: Listed<'_>,
 ) -> Result<String, LookError>
-    ensures listed { IfOk result (λ text. IsListed is_json states.now world.now (string_bytes text)) }
+    ensures listed { IfOk result (λ text. IsListed listed.entry states.now world.now (string_bytes text)) }
     ensures unlisted { IfErr result (NeverUnshown world.now) }
 {
-    let services = services_of(alloc, world)?;
-    Ok(list_all(alloc, states, &services, is_json)?)
+    let all = services_of(alloc, world)?;
+    let services = keep_listed(listed.filter, all);
+    Ok(list_all(alloc, states, &services, listed)?)
 }
 
 /// What is printed of a service.
@@ -137,15 +202,14 @@ fn show_one(
     alloc: Global,
     states: &[NodeStatus],
     service: &Service,
-    is_json: bool,
+    shown: Shown,
 ) -> Result<String, AllocError>
-    ensures { IfOk result (λ text. string_bytes text ≡ show_printed is_json states.now service.now) }
+    ensures { IfOk result (λ text. string_bytes text ≡ show_printed shown states.now service.now) }
 {
     let mut text = String::new(alloc);
-    if is_json {
-        show_json(states, service, &mut text)?;
-    } else {
-        show_text(states, service, &mut text)?;
+    match shown.form {
+        Form::Json | Form::JsonLines => show_json(states, service, &mut text)?,
+        Form::Text | Form::Names => show_text(shown.is_coloured, states, service, &mut text)?,
     }
     Ok(text)
 }
@@ -158,18 +222,46 @@ pub fn show_in(
     states: &[NodeStatus],
     world: &StoredWorld,
     wanted: Wanted<'_>,
-    is_json: bool,
+    shown: Shown,
 ) -> Result<String, LookError>
-    ensures shown { IfOk result (λ text. IsShown is_json states.now world.now wanted.entry (string_bytes text)) }
+    ensures shown { IfOk result (λ text. IsShown shown states.now world.now wanted.entry (string_bytes text)) }
     ensures unshown { IfErr result (IsUnshown world.now wanted.entry) }
 {
     let mut services = services_of(alloc, world)?;
     keep_wanted(wanted, &mut services.published);
     match services.published.as_slice() {
         [] => Err(LookError::NoService),
-        [service] => Ok(show_one(alloc, states, service, is_json)?),
+        [service] => Ok(show_one(alloc, states, service, shown)?),
         _ => Err(LookError::SeveralServices),
     }
+}
+
+/// What is printed of these nodes.
+fn nodes_all(alloc: Global, nodes: &[NodeStanding], shown: Shown) -> Result<String, AllocError>
+    ensures { IfOk result (λ text. string_bytes text ≡ nodes_text_of shown.is_coloured shown.form nodes.now) }
+{
+    let mut text = String::new(alloc);
+    match shown.form {
+        Form::Text => nodes_text(shown.is_coloured, nodes, &mut text)?,
+        Form::Names => node_numbers(nodes, &mut text)?,
+        Form::Json => nodes_json(nodes, &mut text)?,
+        Form::JsonLines => nodes_json_lines(nodes, &mut text)?,
+    }
+    Ok(text)
+}
+
+/// What is printed of these nodes, as they stand in a world. `Failed(OutOfMemory)` where there is no memory.
+fn nodes_in(
+    alloc: Global,
+    states: &[NodeStatus],
+    world: &StoredWorld,
+    shown: Shown,
+) -> Result<String, LookError>
+    ensures nodes { IfOk result (λ text. AreNodes shown states.now world.now (string_bytes text)) }
+    ensures unlisted { IfErr result (NeverUnshown world.now) }
+{
+    let nodes = standings(alloc, world, states)?;
+    Ok(nodes_all(alloc, &nodes, shown)?)
 }
 
 /// Writes a text that was made on the output. Where it wasn't made, nothing is written, and the reason is the same.
@@ -191,8 +283,8 @@ pub fn print<W: Write>(made: Result<String, LookError>, output: &mut W) -> Resul
 
 // ---- over a journal
 
-/// Takes over what others had appended, and prints which services there are then, as a table or as JSON. Of the nodes
-/// these states are known.
+/// Takes over what others had appended, and prints which services there are then, in this form. Of the nodes these
+/// states are known.
 ///
 /// `Unread` where not all can be taken over, and nothing is printed; `Failed` where the output refuses, or there is no
 /// memory.
@@ -200,19 +292,19 @@ pub fn print_list<L: Refusing, W: Write>(
     alloc: Global,
     journal: &mut Journal<L>,
     states: &[NodeStatus],
-    is_json: bool,
+    listed: Listed<'_>,
     output: &mut W,
 ) -> Result<(), LookError>
-    ensures { LooksAt L.contents (IsListed is_json states.now) NeverUnshown
+    ensures { LooksAt L.contents (IsListed listed.entry states.now) NeverUnshown
         journal.old journal.new result (W.contents output.old) (W.contents output.new) }
 {
     if !take_over(journal) {
         return Err(LookError::Unread);
     }
-    print(list_in(alloc, states, journal.world(), is_json), output)
+    print(list_in(alloc, states, journal.world(), listed), output)
 }
 
-/// Takes over what others had appended, and prints all that is known of the wanted service then, as lines or as JSON.
+/// Takes over what others had appended, and prints all that is known of the wanted service then, in this form.
 ///
 /// `Unread` where not all can be taken over, `NoService` and `SeveralServices` where not one is wanted, and nothing is
 /// printed; `Failed` where the output refuses, or there is no memory.
@@ -221,10 +313,10 @@ pub fn print_show<L: Refusing, W: Write>(
     journal: &mut Journal<L>,
     states: &[NodeStatus],
     wanted: Wanted<'_>,
-    is_json: bool,
+    shown: Shown,
     output: &mut W,
 ) -> Result<(), LookError>
-    ensures { LooksAt L.contents (λ w text. IsShown is_json states.now w wanted.entry text)
+    ensures { LooksAt L.contents (λ w text. IsShown shown states.now w wanted.entry text)
         (λ w why. IsUnshown w wanted.entry why)
         journal.old journal.new result (W.contents output.old) (W.contents output.new) }
 {
@@ -232,7 +324,27 @@ pub fn print_show<L: Refusing, W: Write>(
         return Err(LookError::Unread);
     }
     print(
-        show_in(alloc, states, journal.world(), wanted, is_json),
+        show_in(alloc, states, journal.world(), wanted, shown),
         output,
     )
+}
+
+/// Takes over what others had appended, and prints each of the nodes of these states, and how it stands then.
+///
+/// `Unread` where not all can be taken over, and nothing is printed; `Failed` where the output refuses, or there is no
+/// memory.
+pub fn print_nodes<L: Refusing, W: Write>(
+    alloc: Global,
+    journal: &mut Journal<L>,
+    states: &[NodeStatus],
+    shown: Shown,
+    output: &mut W,
+) -> Result<(), LookError>
+    ensures { LooksAt L.contents (AreNodes shown states.now) NeverUnshown
+        journal.old journal.new result (W.contents output.old) (W.contents output.new) }
+{
+    if !take_over(journal) {
+        return Err(LookError::Unread);
+    }
+    print(nodes_in(alloc, states, journal.world(), shown), output)
 }

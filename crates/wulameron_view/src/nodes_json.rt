@@ -1,18 +1,19 @@
-//! The nodes beside a log as JSON.
+//! The nodes at a log as JSON.
 
-ghost use Rattle.std.specs.Prelude.{◌≡◌, ◌++◌, IfOk, OnOk, string_bytes};
+ghost use Rattle.std.specs.Prelude.{◌≡◌, ◌++◌, IfOk, OnOk, map, string_bytes};
+ghost use Rattle.std.specs.List.{flat_map};
 ghost use Rattle.serde_json.specs.View.{view};
 ghost use Rattle.wulameron_view.specs.Data.{json_line};
-ghost use Rattle.wulameron_view.specs.Nodes.{node_data, nodes_data};
+ghost use Rattle.wulameron_view.specs.Nodes.{node_data, nodes_data, standing_alive, standing_data};
 
-use crate::json::{alive_value, write_value};
-use iceoryx2_monitoring::state::NodeStatus;
+use crate::json::write_value;
+use crate::states::{NodeStanding, Standing};
 use serde_json::{Value, json};
 use std::alloc::{AllocError, Global};
 
 /// Writes an array of the nodes, in their order, as one line without a space; docs/CLI.md has the keys. `AllocError`
 /// where there is no memory.
-pub fn nodes_json(nodes: &[NodeStatus], text: &mut String) -> Result<(), AllocError>
+pub fn nodes_json(nodes: &[NodeStanding], text: &mut String) -> Result<(), AllocError>
     ensures { OnOk result (string_bytes text.new ≡ string_bytes text.old ++ json_line (nodes_data nodes.now)) }
 {
     let value = nodes_value(*text.allocator(), nodes)?;
@@ -20,7 +21,7 @@ pub fn nodes_json(nodes: &[NodeStatus], text: &mut String) -> Result<(), AllocEr
 }
 
 /// The array.
-fn nodes_value(alloc: Global, nodes: &[NodeStatus]) -> Result<Value, AllocError>
+fn nodes_value(alloc: Global, nodes: &[NodeStanding]) -> Result<Value, AllocError>
     ensures { IfOk result (λ v. view v ≡ nodes_data nodes.now) }
 {
     let mut values = Vec::new(alloc);
@@ -30,9 +31,53 @@ fn nodes_value(alloc: Global, nodes: &[NodeStatus]) -> Result<Value, AllocError>
     Ok(Value::Array(values))
 }
 
-fn node_value(alloc: Global, status: NodeStatus) -> Result<Value, AllocError>
-    ensures { IfOk result (λ v. view v ≡ node_data status) }
+/// Writes an object for each node, in their order, a line each. `AllocError` where there is no memory; a front of it may
+/// then be written.
+pub fn nodes_json_lines(nodes: &[NodeStanding], text: &mut String) -> Result<(), AllocError>
+    ensures { OnOk result (string_bytes text.new
+        ≡ string_bytes text.old ++ flat_map (λ n. json_line (node_data n)) nodes.now) }
 {
-    let alive = alive_value(status.state);
-    json!(in alloc; {"alive": alive, "node": status.node})
+    for node in nodes {
+        write_node(*node, text)?;
+    }
+    Ok(())
+}
+
+/// Writes the line of a node.
+fn write_node(node: NodeStanding, text: &mut String) -> Result<(), AllocError>
+    ensures { OnOk result (string_bytes text.new ≡ string_bytes text.old ++ json_line (node_data node)) }
+{
+    let value = node_value(*text.allocator(), node)?;
+    write_value(&value, text)
+}
+
+fn node_value(alloc: Global, node: NodeStanding) -> Result<Value, AllocError>
+    ensures { IfOk result (λ v. view v ≡ node_data node) }
+{
+    let alive = alive_value(node.standing);
+    let state = word_of(node.standing);
+    json!(in alloc; {"alive": alive, "node": node.node, "state": state})
+}
+
+/// Whether a node that stands so is alive, and `null` for one that was never claimed.
+fn alive_value(standing: Standing) -> Value
+    ensures { view result ≡ standing_alive standing }
+{
+    match standing {
+        Standing::Alive => Value::Bool(true),
+        Standing::Dead | Standing::Ended => Value::Bool(false),
+        Standing::NeverClaimed => Value::Null,
+    }
+}
+
+/// How a node stands, in a word of JSON.
+fn word_of(standing: Standing) -> &'static str
+    ensures { result.now ≡ standing_data standing }
+{
+    match standing {
+        Standing::Alive => "alive",
+        Standing::Dead => "dead",
+        Standing::Ended => "ended",
+        Standing::NeverClaimed => "never_claimed",
+    }
 }

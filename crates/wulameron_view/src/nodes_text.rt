@@ -1,29 +1,60 @@
-//! The nodes beside a log, line by line.
+//! The nodes at a log, line by line.
 
 ghost use Rattle.std.specs.Prelude.{◌≡◌, ◌++◌, OnOk, string_bytes};
 ghost use Rattle.std.specs.List.{flat_map};
-ghost use Rattle.wulameron_view.specs.Nodes.{node_line};
+ghost use Rattle.wulameron_view.specs.Nodes.{is_left, node_line, number_line};
 
-use crate::show_text::word_of;
-use iceoryx2_monitoring::state::NodeStatus;
+use crate::states::{NodeStanding, Standing, word_of_standing};
+use crate::table::write_red;
 use std::alloc::AllocError;
 
-/// Writes a line for each node, in their order: its number, and whether it is alive. `AllocError` where there is no
-/// memory; a front of it may then be written.
-pub fn nodes_text(nodes: &[NodeStatus], text: &mut String) -> Result<(), AllocError>
-    ensures { OnOk result (string_bytes text.new ≡ string_bytes text.old ++ flat_map node_line nodes.now) }
+/// Writes a line for each node, in their order: its number, and how it stands. `AllocError` where there is no memory; a
+/// front of it may then be written.
+pub fn nodes_text(
+    is_coloured: bool,
+    nodes: &[NodeStanding],
+    text: &mut String,
+) -> Result<(), AllocError>
+    ensures { OnOk result (string_bytes text.new ≡ string_bytes text.old ++ flat_map (node_line is_coloured) nodes.now) }
 {
-    for status in nodes {
-        write_node(*status, text)?;
+    for node in nodes {
+        write_node(is_coloured, *node, text)?;
     }
     Ok(())
 }
 
 /// Writes the line of a node.
-fn write_node(status: NodeStatus, text: &mut String) -> Result<(), AllocError>
-    ensures { OnOk result (string_bytes text.new ≡ string_bytes text.old ++ node_line status) }
+fn write_node(is_coloured: bool, found: NodeStanding, text: &mut String) -> Result<(), AllocError>
+    ensures { OnOk result (string_bytes text.new ≡ string_bytes text.old ++ node_line is_coloured found) }
 {
-    let NodeStatus { node, state } = status;
-    let word = word_of(state);
-    writeln!(text, "node {node} {word}")
+    let NodeStanding { node, standing } = found;
+    write!(text, "node {node} ")?;
+    write_red(
+        is_coloured && is_left(standing),
+        word_of_standing(standing),
+        text,
+    )?;
+    text.push_str("\n")
+}
+
+/// Whether something of a node that stands so is left.
+fn is_left(standing: Standing) -> bool
+    ensures { result ≡ is_left standing }
+{
+    match standing {
+        Standing::Dead => true,
+        _ => false,
+    }
+}
+
+/// Writes the number of each node, a line each. `AllocError` where there is no memory; a front of it may then be
+/// written.
+pub fn node_numbers(nodes: &[NodeStanding], text: &mut String) -> Result<(), AllocError>
+    ensures { OnOk result (string_bytes text.new ≡ string_bytes text.old ++ flat_map number_line nodes.now) }
+{
+    for found in nodes {
+        let node = found.node;
+        writeln!(text, "{node}")?;
+    }
+    Ok(())
 }

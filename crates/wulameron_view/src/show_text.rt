@@ -4,19 +4,19 @@ ghost use Rattle.std.specs.Prelude.{◌≡◌, ◌++◌, OnOk, string_bytes};
 ghost use Rattle.std.specs.List.{flat_map};
 ghost use Rattle.wulameron_view.specs.Settings.{settings_of};
 ghost use Rattle.wulameron_view.specs.ShowTexts.{agreed_lines, attribute_line, call_lines, creator_line};
-ghost use Rattle.wulameron_view.specs.ShowTexts.{explanation, head_lines, identity_lines, kind_text, measure_text};
-ghost use Rattle.wulameron_view.specs.ShowTexts.{member_line, member_with, message_lines, name_line, part_line};
-ghost use Rattle.wulameron_view.specs.ShowTexts.{room_line, setting_line, show_text as show_text_of, state_text};
-ghost use Rattle.wulameron_view.specs.ShowTexts.{type_lines};
+ghost use Rattle.wulameron_view.specs.ShowTexts.{explanation, factories_text, head_lines, identity_lines, kind_text};
+ghost use Rattle.wulameron_view.specs.ShowTexts.{measure_text, member_line, message_lines, name_line, part_line};
+ghost use Rattle.wulameron_view.specs.ShowTexts.{room_line, setting_line, show_text as show_text_of, type_lines};
 
 use crate::list_text::term_of;
 use crate::services::{Member, Service};
 use crate::settings::{Setting, of_events, of_publish_subscribe, of_request_response};
-use crate::states::state_of;
+use crate::states::{is_gone, state_of, word_of};
+use crate::table::write_red;
 use iceoryx2_attribute::attribute::Attribute;
 use iceoryx2_description::description::MessagingPattern;
 use iceoryx2_description::request_response;
-use iceoryx2_monitoring::state::{NodeState, NodeStatus};
+use iceoryx2_monitoring::state::NodeStatus;
 use iceoryx2_types::types::{MessageTypeDetails, TypeDetail, TypeVariant};
 use negotiate_lines::escape::escape;
 use std::alloc::AllocError;
@@ -26,16 +26,18 @@ use std::alloc::AllocError;
 /// whether these nodes are alive; and what the star means. `AllocError` where there is no memory; a front of it may
 /// then be written.
 pub fn show_text(
+    is_coloured: bool,
     states: &[NodeStatus],
     service: &Service,
     text: &mut String,
 ) -> Result<(), AllocError>
-    ensures { OnOk result (string_bytes text.new ≡ string_bytes text.old ++ show_text_of states.now service.now) }
+    ensures { OnOk result (string_bytes text.new
+        ≡ string_bytes text.old ++ show_text_of is_coloured states.now service.now) }
 {
     write_head(service, text)?;
     write_agreed(service, text)?;
     write_room(service, text)?;
-    write_members(states, &service.members, text)?;
+    write_members(is_coloured, states, &service.members, text)?;
     write_explanation(text)
 }
 
@@ -248,41 +250,42 @@ fn write_room(service: &Service, text: &mut String) -> Result<(), AllocError>
 }
 
 fn write_members(
+    is_coloured: bool,
     states: &[NodeStatus],
     members: &[Member],
     text: &mut String,
 ) -> Result<(), AllocError>
     ensures { OnOk result (string_bytes text.new
-        ≡ string_bytes text.old ++ flat_map (member_line states.now) members.now) }
+        ≡ string_bytes text.old ++ flat_map (member_line is_coloured states.now) members.now) }
 {
     for member in members {
-        write_member(states, member, text)?;
+        write_member(is_coloured, states, member, text)?;
     }
     Ok(())
 }
 
-fn write_member(states: &[NodeStatus], member: &Member, text: &mut String) -> Result<(), AllocError>
-    ensures { OnOk result (string_bytes text.new ≡ string_bytes text.old ++ member_line states.now member.now) }
+/// Writes a node, how many factories it has, and whether it is alive.
+fn write_member(
+    is_coloured: bool,
+    states: &[NodeStatus],
+    member: &Member,
+    text: &mut String,
+) -> Result<(), AllocError>
+    ensures { OnOk result (string_bytes text.new
+        ≡ string_bytes text.old ++ member_line is_coloured states.now member.now) }
 {
-    write_member_with(word_of(state_of(states, member.node)), member, text)
+    write_factories(member, text)?;
+    let state = state_of(states, member.node);
+    write_red(is_coloured && is_gone(state), word_of(state), text)?;
+    text.push_str("\n")
 }
 
-#[tactic(auto, unfolding(crate::specs::ShowTexts::member_with))]
-fn write_member_with(state: &str, member: &Member, text: &mut String) -> Result<(), AllocError>
-    ensures { OnOk result (string_bytes text.new ≡ string_bytes text.old ++ member_with state.now member.now) }
+/// Writes a node, and how many factories it has.
+#[tactic(auto, unfolding(crate::specs::ShowTexts::factories_text))]
+fn write_factories(member: &Member, text: &mut String) -> Result<(), AllocError>
+    ensures { OnOk result (string_bytes text.new ≡ string_bytes text.old ++ factories_text member.now) }
 {
     let node = member.node;
     let factories = member.factories;
-    writeln!(text, "node {node}: {factories} factories, {state}")
-}
-
-/// Whether a node is alive, in a word.
-pub(crate) fn word_of(state: NodeState) -> &'static str
-    ensures { result.now ≡ state_text state }
-{
-    match state {
-        NodeState::Alive => "alive",
-        NodeState::Dead => "dead",
-        NodeState::DoesNotExist => "never claimed",
-    }
+    write!(text, "node {node}: {factories} factories, ")
 }

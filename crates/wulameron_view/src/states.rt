@@ -1,11 +1,78 @@
-//! Whether nodes are alive.
+//! Whether nodes are alive, and whether something of them is left.
 
-ghost use Rattle.std.specs.Prelude.{◌≡◌, ◌==◌};
+ghost use Rattle.std.specs.Prelude.{◌≡◌, ◌==◌, IfOk};
 ghost use Rattle.std.specs.List.{find};
 ghost use Rattle.std.specs.Option.{option_map};
-ghost use Rattle.wulameron_view.specs.States.{state_of as state_among};
+ghost use Rattle.wulameron_view.specs.States.{AreStandings, IsStandingIn, dead_count, dead_holders, is_dead};
+ghost use Rattle.wulameron_view.specs.States.{is_gone, standing_word, state_of as state_among, state_word};
 
+use crate::services::{Creation, Member};
 use iceoryx2_monitoring::state::{NodeState, NodeStatus};
+use iceoryx2_table::table::stored::StoredWorld;
+use std::alloc::{AllocError, Global};
+
+/// How a node stands.
+#[derive(Clone, Copy, Debug, PartialEq, Eq)]
+pub enum Standing {
+    /// A process has it.
+    Alive,
+    /// Its process is gone, and something that it had is left.
+    Dead,
+    /// Its process is gone, and nothing is left.
+    Ended,
+    /// No process ever had it.
+    NeverClaimed,
+}
+
+/// A node, and how it stands.
+#[derive(Clone, Copy, Debug, PartialEq, Eq)]
+pub struct NodeStanding {
+    pub node: u64,
+    pub standing: Standing,
+}
+
+/// How each of these nodes stands in a world, in their order. `AllocError` where there is no memory.
+pub fn standings(
+    alloc: Global,
+    world: &StoredWorld,
+    states: &[NodeStatus],
+) -> Result<Vec<NodeStanding>, AllocError>
+    ensures { IfOk result (λ found. AreStandings world.now states.now found.items) }
+{
+    let mut found = Vec::new(alloc);
+    for status in states {
+        found.push(standing_in(world, status))?;
+    }
+    Ok(found)
+}
+
+/// How a node of this state stands in a world.
+fn standing_in(world: &StoredWorld, status: &NodeStatus) -> NodeStanding
+    ensures { IsStandingIn world.now status.now result }
+{
+    let node = status.node;
+    let standing = match status.state {
+        NodeState::Alive => Standing::Alive,
+        NodeState::DoesNotExist => Standing::NeverClaimed,
+        NodeState::Dead => match world.holding(node) {
+            Some(_) => Standing::Dead,
+            None => Standing::Ended,
+        },
+    };
+    NodeStanding { node, standing }
+}
+
+/// How a node stands, in a word.
+pub(crate) fn word_of_standing(standing: Standing) -> &'static str
+    ensures { result.now ≡ standing_word standing }
+{
+    match standing {
+        Standing::Alive => "alive",
+        Standing::Dead => "dead",
+        Standing::Ended => "ended",
+        Standing::NeverClaimed => "never claimed",
+    }
+}
 
 /// The state of a node among these. A node that has none was never claimed.
 pub(crate) fn state_of(states: &[NodeStatus], node: u64) -> NodeState
@@ -24,5 +91,53 @@ fn found_state(states: &[NodeStatus], node: u64) -> Option<NodeState>
     match states.iter().find(|status| status.node == node) {
         None => None,
         Some(status) => Some(status.state),
+    }
+}
+
+/// Whether a node is alive, in a word.
+pub(crate) fn word_of(state: NodeState) -> &'static str
+    ensures { result.now ≡ state_word state }
+{
+    match state {
+        NodeState::Alive => "alive",
+        NodeState::Dead => "dead",
+        NodeState::DoesNotExist => "never claimed",
+    }
+}
+
+/// Whether the process of a node of this state is gone.
+pub(crate) fn is_gone(state: NodeState) -> bool
+    ensures { result ≡ is_gone state }
+{
+    match state {
+        NodeState::Dead => true,
+        _ => false,
+    }
+}
+
+/// Whether a node's process is gone.
+fn is_dead(states: &[NodeStatus], node: u64) -> bool
+    ensures { result ≡ is_dead states.now node }
+{
+    is_gone(state_of(states, node))
+}
+
+/// How many of these nodes are dead.
+pub(crate) fn dead_count(states: &[NodeStatus], members: &[Member]) -> usize
+    ensures { result ≡ dead_count states.now members.now }
+{
+    members
+        .iter()
+        .filter(|member| is_dead(states, member.node))
+        .count()
+}
+
+/// One where the holder of the lock is dead, and else none.
+pub(crate) fn dead_holders(states: &[NodeStatus], creation: &Creation) -> usize
+    ensures { result ≡ dead_holders states.now creation.now }
+{
+    match creation.node {
+        None => 0,
+        Some(node) => { if is_dead(states, node) { 1 } else { 0 } }
     }
 }

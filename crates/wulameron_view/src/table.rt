@@ -1,10 +1,12 @@
 //! Cells that stand in columns of a terminal.
 
-ghost use Rattle.std.specs.Prelude.{◌≡◌, ◌++◌, OnOk, string_bytes};
-ghost use Rattle.wulameron_view.specs.Tables.{columns as columns_of, padded, spaces};
+ghost use Rattle.std.specs.Prelude.{◌≡◌, ◌-◌, ◌++◌, IfOk, OnOk, string_bytes};
+ghost use Rattle.std.specs.Str.{chars};
+ghost use Rattle.wulameron_view.specs.Tables.{character_columns, columns as columns_of, cut, ellipsis, front, padded};
+ghost use Rattle.wulameron_view.specs.Tables.{red, spaces};
 
-use std::alloc::AllocError;
-use unicode_width::UnicodeWidthStr;
+use std::alloc::{AllocError, Global};
+use unicode_width::{UnicodeWidthChar, UnicodeWidthStr};
 
 /// How many columns of a terminal a text takes.
 #[tactic(auto, unfolding(crate::specs::Tables::columns))]
@@ -30,4 +32,62 @@ fn write_spaces(count: usize, text: &mut String) -> Result<(), AllocError>
         text.push_str(" ")?;
     }
     Ok(())
+}
+
+/// A cell that takes at most so many columns: itself, or its first characters with an ellipsis behind them.
+pub(crate) fn cut(alloc: Global, width: usize, cell: &str) -> Result<String, AllocError>
+    ensures { IfOk result (λ text. string_bytes text ≡ cut width cell.now) }
+{
+    if columns(cell) <= width {
+        return String::from_str(alloc, cell);
+    }
+    let mut text = String::new(alloc);
+    write_front(cell, width.saturating_sub(1), &mut text)?;
+    Ok(text)
+}
+
+/// Writes the first characters as long as they take at most so many columns, and an ellipsis behind them.
+fn write_front(cell: &str, width: usize, text: &mut String) -> Result<(), AllocError>
+    ensures { OnOk result (string_bytes text.new ≡ string_bytes text.old ++ front width (chars cell.now)) }
+{
+    let mut left = width;
+    for character in cell.chars() {
+        let taken = character_columns(character);
+        if taken > left {
+            return write_ellipsis(text);
+        }
+        left -= taken;
+        text.push(character)?;
+    }
+    Ok(())
+}
+
+/// Writes what stands in place of what is cut off.
+fn write_ellipsis(text: &mut String) -> Result<(), AllocError>
+    ensures { OnOk result (string_bytes text.new ≡ string_bytes text.old ++ ellipsis) }
+{
+    text.push('…')
+}
+
+/// How many columns of a terminal a character takes.
+fn character_columns(character: char) -> usize
+    ensures { result ≡ character_columns character }
+{
+    match character.width() {
+        Some(columns) => columns,
+        None => 0,
+    }
+}
+
+/// Writes a part, in red where it is to be so and has something.
+pub(crate) fn write_red(is_red: bool, part: &str, text: &mut String) -> Result<(), AllocError>
+    ensures { OnOk result (string_bytes text.new ≡ string_bytes text.old ++ red is_red part.now) }
+{
+    if !is_red {
+        return text.push_str(part);
+    }
+    if part.is_empty() {
+        return Ok(());
+    }
+    write!(text, "\x1b[31m{part}\x1b[0m")
 }

@@ -1,25 +1,21 @@
 //! The commands that look at a log. They claim no node, make no log, and append nothing.
 
-ghost use Rattle.std.specs.Prelude.{◌≡◌, ℕ, List, Some, IfOk, string_bytes};
+ghost use Rattle.std.specs.Prelude.{◌≡◌, ℕ, List, Some};
 ghost use Rattle.wulameron_place.specs.Troubles.{WritesLine, trouble_line};
 ghost use Rattle.wulameron_view.specs.Looking.{IsListed, IsShown, IsUnshown, NeverUnshown, look_status};
-ghost use Rattle.wulameron_view.specs.Nodes.{nodes_printed};
-ghost use Rattle.wulameron_view.specs.Viewing.{EndsLook, EndsNodes, look_text};
+ghost use Rattle.wulameron_view.specs.Nodes.{AreNodes};
+ghost use Rattle.wulameron_view.specs.Viewing.{EndsLook, look_text};
 
-use crate::looking::{LookError, print_list, print_show, status_of_look};
-use crate::nodes_json::nodes_json;
-use crate::nodes_text::nodes_text;
+use crate::looking::{LookError, print_list, print_nodes, print_show, status_of_look};
 use iceoryx2_journal::journal::Journal;
 use iceoryx2_monitoring::state::NodeStatus;
-use negotiate_serve::ending::{DONE, FAULT, ServeError};
-use negotiate_serve::output::write_out;
-use std::alloc::{AllocError, Global};
+use negotiate_serve::ending::{FAULT, ServeError};
 use std::fs::File;
 use std::io::Write;
 use std::random::RandomSource;
 use std::rt::Files;
 use std::time::Clock;
-use wulameron_arguments::asked::{Look, Show, Wanted};
+use wulameron_arguments::asked::{self, Listed, Look, Show, Shown, Wanted};
 use wulameron_place::opening::{open_view, states};
 use wulameron_place::reports::Reports;
 use wulameron_place::trouble::{Refusing, Trouble, Troubled};
@@ -28,22 +24,22 @@ const NO_SERVICE: &str = "has no such service; see `wulameron list`";
 
 const SEVERAL_SERVICES: &str = "has several services of this name; name one by --pattern";
 
-/// Prints which services there are over the log of a place, as a table or as JSON. Gives the status with which the
+/// Prints which services there are over the log of a place, in the form that is asked for. Gives the status with which the
 /// program ends: 0, or 3 after a failure, of which the writer of errors has a line.
 pub fn list<F: Files<File = File> + Clock + RandomSource + AllocGlobal, W: Write, E: Write>(
     rt: &F,
-    look: &Look<'_>,
+    list: &asked::List<'_>,
     output: &mut W,
     errors: &mut E,
 ) -> u8 {
-    let mut reports = Reports::new(rt.alloc(), look.place.at, errors);
-    let Some(mut journal) = open_view(rt, look.place, &mut reports) else {
+    let mut reports = Reports::new(rt.alloc(), list.place.at, errors);
+    let Some(mut journal) = open_view(rt, list.place, &mut reports) else {
         return FAULT;
     };
-    let Some(found) = states(rt, look.place, &mut reports) else {
+    let Some(found) = states(rt, list.place, &mut reports) else {
         return FAULT;
     };
-    list_over(&mut journal, &found, look.is_json, output, &mut reports)
+    list_over(&mut journal, &found, list.listed, output, &mut reports)
 }
 
 /// Prints which services there are over a log, which this journal takes over first. Of the nodes these states are
@@ -51,14 +47,14 @@ pub fn list<F: Files<File = File> + Clock + RandomSource + AllocGlobal, W: Write
 pub fn list_over<L: Refusing, W: Write, E: Write>(
     journal: &mut Journal<L>,
     states: &[NodeStatus],
-    is_json: bool,
+    listed: Listed<'_>,
     output: &mut W,
     reports: &mut Reports<'_, E>,
 ) -> u8
-    ensures { EndsLook L.contents (IsListed is_json states.now) NeverUnshown
+    ensures { EndsLook L.contents (IsListed listed.entry states.now) NeverUnshown
         journal.old journal.new (W.contents output.old) (W.contents output.new) result }
 {
-    let looked = print_list(reports.alloc(), journal, states, is_json, output);
+    let looked = print_list(reports.alloc(), journal, states, listed, output);
     end_look(journal.trouble(), looked, reports)
 }
 
@@ -83,7 +79,7 @@ pub fn show<F: Files<File = File> + Clock + RandomSource + AllocGlobal, W: Write
         &mut journal,
         &found,
         show.wanted,
-        look.is_json,
+        look.shown,
         output,
         &mut reports,
     )
@@ -96,15 +92,15 @@ pub fn show_over<L: Refusing, W: Write, E: Write>(
     journal: &mut Journal<L>,
     states: &[NodeStatus],
     wanted: Wanted<'_>,
-    is_json: bool,
+    shown: Shown,
     output: &mut W,
     reports: &mut Reports<'_, E>,
 ) -> u8
-    ensures { EndsLook L.contents (λ w text. IsShown is_json states.now w wanted.entry text)
+    ensures { EndsLook L.contents (λ w text. IsShown shown states.now w wanted.entry text)
         (λ w why. IsUnshown w wanted.entry why)
         journal.old journal.new (W.contents output.old) (W.contents output.new) result }
 {
-    let looked = print_show(reports.alloc(), journal, states, wanted, is_json, output);
+    let looked = print_show(reports.alloc(), journal, states, wanted, shown, output);
     end_look(journal.trouble(), looked, reports)
 }
 
@@ -147,61 +143,36 @@ pub fn report_look<E: Write>(
 
 // ---- nodes
 
-/// Prints each node that has a file beside the log, by rising number, and whether it is alive, as lines or as JSON.
-/// Gives the status with which the program ends: 0, or 3 after a failure, of which the writer of errors has a line.
-pub fn nodes<F: Files<File = File> + AllocGlobal, W: Write, E: Write>(
+/// Prints each node that was ever claimed at a place, by rising number, and how it stands, in the form that is asked
+/// for. Gives the status with which the program ends: 0, or 3 after a failure, of which the writer of errors has a line.
+pub fn nodes<F: Files<File = File> + Clock + RandomSource + AllocGlobal, W: Write, E: Write>(
     rt: &F,
     look: &Look<'_>,
     output: &mut W,
     errors: &mut E,
 ) -> u8 {
     let mut reports = Reports::new(rt.alloc(), look.place.at, errors);
-    match states(rt, look.place, &mut reports) {
-        Some(found) => print_nodes(&found, look.is_json, output, &mut reports),
-        None => FAULT,
-    }
+    let Some(mut journal) = open_view(rt, look.place, &mut reports) else {
+        return FAULT;
+    };
+    let Some(found) = states(rt, look.place, &mut reports) else {
+        return FAULT;
+    };
+    nodes_over(&mut journal, &found, look.shown, output, &mut reports)
 }
 
-/// Prints these nodes, each with whether it is alive, as lines or as JSON. Gives the status: 0, or 3 where there is no
-/// memory or the output refuses, which is told.
-pub fn print_nodes<W: Write, E: Write>(
-    nodes: &[NodeStatus],
-    is_json: bool,
+/// Prints each of the nodes of these states, and how it stands over a log, which this journal takes over first. Gives
+/// the status: 0, or 3 where the log refuses, there is no memory, or the output refuses, which is told.
+pub fn nodes_over<L: Refusing, W: Write, E: Write>(
+    journal: &mut Journal<L>,
+    states: &[NodeStatus],
+    shown: Shown,
     output: &mut W,
     reports: &mut Reports<'_, E>,
 ) -> u8
-    ensures { EndsNodes is_json nodes.now (W.contents output.old) (W.contents output.new) result }
+    ensures { EndsLook L.contents (AreNodes shown states.now) NeverUnshown
+        journal.old journal.new (W.contents output.old) (W.contents output.new) result }
 {
-    match write_nodes(reports.alloc(), nodes, is_json, output) {
-        Ok(()) => DONE,
-        Err(fault) => reports.fail(fault),
-    }
-}
-
-/// Writes these nodes on the output, as lines or as JSON.
-fn write_nodes<W: Write>(
-    alloc: Global,
-    nodes: &[NodeStatus],
-    is_json: bool,
-    output: &mut W,
-) -> Result<(), ServeError>
-    ensures { WritesLine (nodes_printed is_json nodes.now) result (W.contents output.old) (W.contents output.new) }
-{
-    match nodes_in(alloc, nodes, is_json) {
-        Ok(text) => write_out(text.as_bytes(), output),
-        Err(_) => Err(ServeError::OutOfMemory),
-    }
-}
-
-/// What is printed of these nodes: a line for each, or JSON.
-fn nodes_in(alloc: Global, nodes: &[NodeStatus], is_json: bool) -> Result<String, AllocError>
-    ensures { IfOk result (λ text. string_bytes text ≡ nodes_printed is_json nodes.now) }
-{
-    let mut text = String::new(alloc);
-    if is_json {
-        nodes_json(nodes, &mut text)?;
-    } else {
-        nodes_text(nodes, &mut text)?;
-    }
-    Ok(text)
+    let looked = print_nodes(reports.alloc(), journal, states, shown, output);
+    end_look(journal.trouble(), looked, reports)
 }

@@ -11,7 +11,7 @@ pub returns : goal.returns
 returns g c =
     let w : World = c.take_over.new.journal.world in
     read c.if-not-take_over.ensures
-    (printed_of string_bytes (IsListed c.args.is_json c.args.states.now w) (NeverUnshown w) c.list_in.result c.print.result (g.W.Write.contents c.args.output.now) (g.W.Write.contents c.print.new.output)
-    (subst (λ (w : World). IfOk c.list_in.result (λ text. IsListed c.args.is_json c.args.states.now w (string_bytes text))) c.world.ensures c.list_in.ensures.listed)
+    (printed_of string_bytes (IsListed c.args.listed c.args.states.now w) (NeverUnshown w) c.list_in.result c.print.result (g.W.Write.contents c.args.output.now) (g.W.Write.contents c.print.new.output)
+    (subst (λ (w : World). IfOk c.list_in.result (λ text. IsListed c.args.listed c.args.states.now w (string_bytes text))) c.world.ensures c.list_in.ensures.listed)
     (subst (λ (w : World). IfErr c.list_in.result (NeverUnshown w)) c.world.ensures c.list_in.ensures.unlisted)
     c.print.ensures.written c.print.ensures.why)

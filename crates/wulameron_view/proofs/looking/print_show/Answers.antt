@@ -11,7 +11,7 @@ pub returns : goal.returns
 returns g c =
     let w : World = c.take_over.new.journal.world in
     read c.if-not-take_over.ensures
-    (printed_of string_bytes (IsShown c.args.is_json c.args.states.now w c.args.wanted) (λ why. IsUnshown w c.args.wanted why) c.show_in.result c.print.result (g.W.Write.contents c.args.output.now) (g.W.Write.contents c.print.new.output)
-    (subst (λ (w : World). IfOk c.show_in.result (λ text. IsShown c.args.is_json c.args.states.now w c.args.wanted (string_bytes text))) c.world.ensures c.show_in.ensures.shown)
+    (printed_of string_bytes (IsShown c.args.shown c.args.states.now w c.args.wanted) (λ why. IsUnshown w c.args.wanted why) c.show_in.result c.print.result (g.W.Write.contents c.args.output.now) (g.W.Write.contents c.print.new.output)
+    (subst (λ (w : World). IfOk c.show_in.result (λ text. IsShown c.args.shown c.args.states.now w c.args.wanted (string_bytes text))) c.world.ensures c.show_in.ensures.shown)
     (subst (λ (w : World). IfErr c.show_in.result (λ why. IsUnshown w c.args.wanted why)) c.world.ensures c.show_in.ensures.unshown)
     c.print.ensures.written c.print.ensures.why)

@@ -4,4 +4,5 @@ use Rattle.wulameron_view.specs.ShowTexts.{member_line}
 use Rattle.wulameron_view.proofs.show_text.write_members.Given as goal
 
 abbrev pub invariant-loop-member : goal.invariant-loop-member
-invariant-loop-member l = string_bytes l.text ≡ string_bytes l.fn.text ++ flat_map (member_line l.states) (take l.member-index l.members)
+invariant-loop-member l =
+    string_bytes l.text ≡ string_bytes l.fn.text ++ flat_map (member_line l.is_coloured l.states) (take l.member-index l.members)

@@ -1,0 +1,7 @@
+use Rattle.std.proofs.Common.{◌∙◌, ap}
+use Rattle.serde_json.specs.Written.{has_float}
+use Rattle.wulameron_view.proofs.Floats.{creations}
+use Rattle.wulameron_view.proofs.list_json.write_creation.Goals as goal
+
+pub write_value-requires : goal.write_value-requires
+write_value-requires c = ap has_float c.in_ok-value.ensures ∙ creations c.args.creation.now
