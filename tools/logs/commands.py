@@ -100,7 +100,10 @@ def listed(runs, path):
 def check_listed(runs, path, alive, what):
     """The list has the service with these nodes, each alive or not, as a reader in Python finds it in the file."""
     found = listed(runs, path)
-    nodes = [{"alive": is_alive, "factories": 1, "node": node} for node, is_alive in sorted(alive.items())]
+    nodes = [
+        {"alive": is_alive, "factories": 1, "node": node, "state": "alive" if is_alive else "dead"}
+        for node, is_alive in sorted(alive.items())
+    ]
     runs.need([one["name"] for one in found] == [NAME] * bool(alive), f"{what}: list has {found}")
     if found and alive:
         runs.need(found[0]["nodes"] == nodes, f"{what}: list has the nodes {found[0]['nodes']}, not {nodes}")
@@ -123,7 +126,7 @@ def check_change(runs, watch, change, node):
 def check_dead(runs, path):
     """One of both nodes is dead: what shows it, and what cleans up for it."""
     nodes = once(runs, path, "nodes")
-    wanted = ["node 1 alive", "node 2 dead", "node 3 dead"]
+    wanted = ["node 1 alive", "node 2 dead", "node 3 ended"]
     runs.need(nodes.out == wanted, f"nodes printed {nodes.out}, not {wanted}")
     check_listed(runs, path, {1: True, 2: False}, "after a kill")
     before = snapshot(path)

@@ -154,9 +154,13 @@ def place(runs, name, death, is_known=True):
 
 
 def check_nodes(runs, path, wanted, what):
-    """The nodes are listed, each with whether it is alive."""
+    """The nodes are listed: which are alive, and of each other one whether something of it is left in the file."""
+    replayed = runs.replay(path.read_bytes(), what)
+    if not replayed:
+        return
+    left = {node: "dead" if any(replayed[1].left_by(node)) else "ended" for node in wanted}
     ran = runs.nodes(path)
-    lines = [f"node {node} {wanted[node]}" for node in sorted(wanted)]
+    lines = [f"node {node} {wanted[node] or left[node]}" for node in sorted(wanted)]
     runs.need((ran.status, ran.out, ran.err) == (0, lines, ""), f"{what}: of nodes it listed {ran}, and not {lines}")
 
 
@@ -242,7 +246,7 @@ def at_start(runs, death, name):
     """Who starts gives back what the dead node had, before its first line, and then has the service."""
     what = f"{name}, at a start"
     path, maker = place(runs, f"{name}-start", death)
-    states = {DEAD: "dead", **{node: "alive" for node in death.living}}
+    states = {DEAD: None, **{node: "alive" for node in death.living}}
     check_nodes(runs, path, states, what)
     other = Living(runs, path, OTHER)
     listed = other.reply("list")
@@ -402,7 +406,7 @@ def alive(runs):
     ran = runs.run(path, None, [f"event open 1 0 {NAME}", "list"])
     fine = ran.status == 0 and ran.err == f"wulameron: {path}: this is node 1\n"
     runs.need(fine and ran.out[0] == "ok 0 number=0" and "nodes=2/2" in ran.out[1], f"{what}: beside it {ran}")
-    check_nodes(runs, path, {0: "alive", 1: "dead"}, what)
+    check_nodes(runs, path, {0: "alive", 1: None}, what)
     runs.need(living.reply("close 0") == "closed 0", f"{what}: it doesn't close")
     check_end(runs, path, [living], what)
     ran = runs.run(path, None, ["list"])
