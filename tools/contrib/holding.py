@@ -16,6 +16,11 @@ AGREED = "* differs from the default of a create\n"
 FILES = ("log", "log.node-1")
 # What the commands print while the service is held, once it was closed, and once its node has died.
 HELD = "event    lamps  1/2    1        0\n1 services\n"
+# The same where the node that holds it is dead.
+LEFT = (
+    "event    lamps  1/2    1        0  1 dead\n1 services\n"
+    "1 with dead nodes; `wulameron clean` gives back what they have\n"
+)
 NO_SERVICES = "PATTERN  NAME  NODES  CREATOR  NUMBER\n0 services\n"
 CLEANED = "node 1: 1 releases, 3 removals\n"
 
@@ -46,11 +51,11 @@ class Log:
 
     def closed(self):
         """What is wrong once the service was closed in order."""
-        return self.faults(NO_SERVICES, "node 1 dead\n")
+        return self.faults(NO_SERVICES, "node 1 ended\n")
 
     def killed(self):
         """What is wrong once the node has died."""
-        return self.faults(HELD, "node 1 dead\n", "node 1: would be 1 releases, 3 removals\n")
+        return self.faults(LEFT, "node 1 dead\n", "node 1: would be 1 releases, 3 removals\n")
 
 
 def holding(checks, words=WORDS, **options):
@@ -200,7 +205,7 @@ def unit_lines(checks):
     faults = unit.start().faults(2)
     faults.append(differs("RestartPreventExitStatus", unit.values("RestartPreventExitStatus"), ["2"]))
     status, printed = unit.clean()
-    faults.append(differs("what ExecStopPost does", (status, "never claimed" in printed), (1, True)))
+    faults.append(differs("what ExecStopPost does", (status, "there is no log" in printed), (3, True)))
     (line,) = unit.values("ExecStopPost")
     faults.append("" if line.startswith("-") else "ExecStopPost may not fail")
     checks.counts("unit: wrong words, which aren't tried again", faults)

@@ -35,7 +35,7 @@ WORDS = {
     "wulameron show --pattern ": PATTERNS,
     "wulameron show lamps --pattern r": ["rr"],
     "wulameron list --at lo": FILES[:2],
-    "wulameron list --at log-1 --js": ["--json"],
+    "wulameron list --at log-1 --js": ["--json", "--json-lines"],
     "wulameron clean --node": [],
     "wulameron list ": [],
     "wulameron help cl": ["clean"],

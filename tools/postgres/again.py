@@ -70,7 +70,7 @@ class Renewing:
             self.checks.same(found, ((len(services),) * 3, []), f"{what}: what there is")
         if not self.site.is_plain:
             found = json.loads("".join(self.site.ran("list", name, "--json").out) or "null")
-            wanted = {service: [{"alive": True, "factories": 1, "node": 1}] for service in services}
+            wanted = {service: [{"alive": True, "factories": 1, "node": 1, "state": "alive"}] for service in services}
             self.checks.same({one["name"]: one["nodes"] for one in found or []}, wanted, f"{what}: what list shows")
 
     def cleaned(self, name, what):

@@ -10,6 +10,8 @@ from postgres.site import waiting
 from postgres.table import read_rows, replay
 
 LOG = "commands"
+# What a list tells behind its table where one service has dead nodes.
+DEAD_NODES = "1 with dead nodes; `wulameron clean` gives back what they have"
 # Whether who watches has had the answer to its first reading.
 HAS_READ = """select pid from pg_stat_activity where application_name = 'watch' and state = 'idle'
     and query like '%from wulameron.entries%'"""
@@ -42,7 +44,10 @@ def check_listed(shown, alive, what):
     need, ran = shown.need, shown.once("list", "--json")
     need(ran.status == 0, f"{what}: list ended with {ran.status}: {ran.err}")
     found = json.loads("\n".join(ran.out) or "null") or []
-    nodes = [{"alive": is_alive, "factories": 1, "node": node} for node, is_alive in sorted(alive.items())]
+    nodes = [
+        {"alive": is_alive, "factories": 1, "node": node, "state": "alive" if is_alive else "dead"}
+        for node, is_alive in sorted(alive.items())
+    ]
     need([one["name"] for one in found] == [NAME] * bool(alive), f"{what}: list has {found}")
     if found and alive:
         need(found[0]["nodes"] == nodes, f"{what}: list has the nodes {found[0]['nodes']}, not {nodes}")
@@ -51,17 +56,20 @@ def check_listed(shown, alive, what):
         members = {ticket.node for ticket in table.world.tickets.values()}
         need(members == set(alive), f"{what}: the table has the nodes {members}, not {set(alive)}")
     lines = shown.once("list").out
-    need(lines[-1:] == [f"{len(found)} services"], f"{what}: list printed {lines}")
+    told = [f"{len(found)} services"] + [DEAD_NODES] * (False in alive.values())
+    need(lines[-len(told) :] == told, f"{what}: list printed {lines}")
 
 
 def check_dead(shown):
     """One of both nodes is dead: what shows it, and what cleans up for it."""
     need = shown.need
-    wanted = ["node 1 alive", "node 2 dead", "node 3 dead"]
+    states = {1: "alive", 2: "dead", 3: "ended"}
+    wanted = [f"node {node} {state}" for node, state in states.items()]
     nodes = until(lambda: (ran := shown.once("nodes")).out == wanted and ran, pause=PAUSE)
     need(nodes, f"nodes printed {shown.once('nodes')}, not {wanted}")
     found = json.loads("".join(shown.once("nodes", "--json").out) or "null")
-    need(found == [{"alive": node == 1, "node": node} for node in (1, 2, 3)], f"nodes --json printed {found}")
+    objects = [{"alive": node == 1, "node": node, "state": state} for node, state in states.items()]
+    need(found == objects, f"nodes --json printed {found}")
     check_listed(shown, {1: True, 2: False}, "after a kill")
     before = read_rows(shown.site.server, LOG)
     dry = shown.once("clean", "--dry-run")
