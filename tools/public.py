@@ -1,49 +1,14 @@
-#!/usr/bin/env python3
-"""Writes docs/API.md: what users name, module by module below `iceoryx2_service`, with signatures and first sentences,
-the settings with their defaults, and the limits. What iceoryx2 hides is listed apart, at the end.
+"""What users name, module by module below `iceoryx2_service`: signatures with first sentences, the settings of builders
+with their defaults, and the limits. `tools/look-up --public` prints it.
 
-All of it is taken from the sources: an item is listed once, at the first of its paths. Laws are left out, and so are the
-private parts of an item. With `--check` it writes nothing, prints whether the page differs, and ends with status 1 then.
+An item is listed once, at the first of its paths. Laws are left out, and so are the private parts of an item. What
+iceoryx2 hides is listed apart.
 """
 import re
-import sys
 
-sys.dont_write_bytecode = True
 from items import Items, TOP, module_sources
 
-PAGE = TOP / "docs/API.md"
 ROOT = ("iceoryx2_service",)
-# The modules of the page in their order, with what each is for. What stands in two of them is listed in the first.
-MODULES = {
-    "builder": "nodes, and where their builders begin",
-    "builder::event": "services of events",
-    "builder::publish_subscribe": "services of publish-subscribe",
-    "builder::request_response": "services of request-response",
-    "port_factory": "what an opened service is held by",
-    "port_factory::factory": "the same, whatever the pattern",
-    "port_factory::event": "of events",
-    "port_factory::publish_subscribe": "of publish-subscribe",
-    "port_factory::request_response": "of request-response",
-    "description": "names, hashes, settings and descriptions",
-    "description::event": "what was agreed of events",
-    "description::publish_subscribe": "what was agreed of publish-subscribe",
-    "description::request_response": "what was agreed of request-response",
-    "attribute": "the pairs of a service, and what an open requires of them",
-    "types": "types of payloads and headers",
-    "table": "the storage that lives within one process",
-    "shared": "the storage that processes share",
-    "session": "calls as values, and slots for what they give",
-    "storage": "what a storage has to be",
-    "traced": "a storage that keeps what was asked of another",
-    "script": "storages for tests",
-    "bytes": "the byte form of a description",
-    "types::publish_subscribe": "the header of a sample",
-    "types::request_response": "the headers of a request and of a response",
-    "builder::event::demand": "what a builder of events asks",
-    "builder::publish_subscribe::demand": "what a builder of publish-subscribe asks",
-    "builder::request_response::demand": "what a builder of request-response asks",
-    "builder::request_response::requested": "what it is given of its messages",
-}
 # The crate whose enums docs/REFUSALS.md has.
 ERRORS = "iceoryx2_errors"
 PATTERNS = {"Event": "event", "PublishSubscribe": "publish_subscribe", "RequestResponse": "request_response"}
@@ -100,22 +65,12 @@ def brief(comments):
 
 def line(indent, signature, about):
     """The line of a signature."""
-    return f"{indent}- `{signature}`" + (f": {about}" if about else "")
+    return f"{indent}{signature}" + (f": {about}" if about else "")
 
 
 def is_limit(text):
-    """Whether a constant's text is that of a number, which the table of limits has."""
+    """Whether a constant's text is that of a number, which the limits have."""
     return re.search(r"= ([\d_]+)$", text)
-
-
-def anchor(heading):
-    """By what a link leads to a heading."""
-    return re.sub(r"[^\w -]", "", heading.lower()).replace(" ", "-")
-
-
-def cell(text):
-    """A text as it may stand in a table."""
-    return text.replace("|", "\\|")
 
 
 def head(text):
@@ -123,6 +78,29 @@ def head(text):
     text = re.split(r"\n +(?:ensures|requires|//)| \{\n|\n *\{|;\n", text)[0]
     text = re.sub(r"\s+", " ", text).strip().rstrip(";{").strip()
     return text.replace("pub ", "").replace("( ", "(").replace(", )", ")")
+
+
+def module_paths(items):
+    """The modules below the root by the first of their paths, the shortest ones first."""
+    found, left = {}, [((), ROOT)]
+    for path, at in left:
+        if at in found.values():
+            continue
+        found["::".join(path)] = at
+        names = [(name, items.item(at, (name,))) for name in sorted(items.public[at])]
+        left += [((*path, name), each) for name, each in names if each in items.sources]
+    return found
+
+
+def item_paths(items):
+    """The first path of each item that users name."""
+    found = {}
+    for path, at in module_paths(items).items():
+        for name in sorted(items.public[at]):
+            item = items.item(at, (name,))
+            if item is not None:
+                found.setdefault(item, "::".join(filter(None, (*ROOT, path, name))))
+    return found
 
 
 class Api:
@@ -137,11 +115,10 @@ class Api:
 
     def declaration(self, item):
         """The kind of an item, its comments, and its text from its name on."""
-        text = self.raw[item[:-1]]
-        found = re.search(rf"{DOC}^pub (fn|struct|enum|trait|type|const) (?={item[-1]}\b)", text, re.M)
+        found = re.search(rf"{DOC}^pub (fn|struct|enum|trait|type|const) (?={item[-1]}\b)", self.raw[item[:-1]], re.M)
         if not found:
             return None
-        behind = text[found.end() :]
+        behind = self.raw[item[:-1]][found.end() :]
         end = r"\n\}|\n\{\}" if re.match(r"[^;]*\{\n", behind) else r";\n|\n\{\}"
         return found[2], found[1], behind[: re.search(end, behind).start()]
 
@@ -197,19 +174,19 @@ class Api:
             method = re.match(r"\w+", signature)[0]
             setter = SETTER.match(signature)
             if setter and (method in self.settings or method.startswith("disable_")):
-                setters.append(f"`{method}({setter[1] or ''})`")
+                setters.append(f"{method}({setter[1] or ''})")
             elif kind != "trait" and not self.is_called(method):
-                rest.append(f"`{method}`")
+                rest.append(method)
             else:
-                lines.append(line("  ", signature, brief(of)))
-        lines += [f"  - setters: {', '.join(setters)}"] if setters else []
-        return lines + ([f"  - called by the library alone: {', '.join(rest)}"] if rest else [])
+                lines.append(line("    ", signature, brief(of)))
+        lines += [f"    setters: {', '.join(setters)}"] if setters else []
+        return lines + ([f"    called by the library alone: {', '.join(rest)}"] if rest else [])
 
     def inside(self, item, kind, comments, text):
         """What a type has inside, where users may see it, and what it implements of std."""
         body, seen = text.partition("{")[2], ""
         if kind == "enum" and item[0] == ERRORS and item[-1].endswith(("OpenError", "CreateError")):
-            seen = f" [Its values](REFUSALS.md#{item[-1].lower()})."
+            seen = f" Its values: docs/REFUSALS.md#{item[-1].lower()}."
         elif kind == "enum":
             seen = " Values: " + ", ".join(re.findall(r"^    (\w+)", re.sub(r"//.*", "", body), re.M)) + "."
         elif kind == "struct":
@@ -218,12 +195,12 @@ class Api:
         derived = [name.strip() for names in DERIVED.findall(comments) for name in names.split(",")]
         own = [trait for trait, _ in self.impls(item) if trait]
         traits = sorted(set(derived + own) - UNLISTED)
-        return seen + (" *" + ", ".join(traits) + "*" if traits else "")
+        return seen + (f" ({', '.join(traits)})" if traits else "")
 
 
-def setting_rows(api):
+def setting_lines(api):
     """The settings that builders start from: pattern, name, default, and the comment of its setter."""
-    text, rows = (TOP / CONFIG).read_text(encoding="utf-8"), []
+    text, lines = (TOP / CONFIG).read_text(encoding="utf-8"), []
     for struct, module in PATTERNS.items():
         defaults = re.search(rf"fn default\(\) -> {struct} \{{\n +{struct} \{{\n(.*?)\n +\}}", text, re.S)[1]
         builder = api.items.item(ROOT, ("builder", module, "Builder"))
@@ -231,89 +208,51 @@ def setting_rows(api):
         for name, value in re.findall(r"(\w+): (.*?),", defaults):
             setter = re.search(rf"{DOC}^    pub fn {name}\(", bodies, re.M)
             value = {"None": "none", "true": "yes", "false": "no"}.get(value, value)
-            rows.append(f"| {module} | `{name}` | {value} | {cell(sentences(setter[1]))} |")
-    return rows
+            lines.append(f"{module} {name} = {value}: {sentences(setter[1])}")
+    return lines
 
 
-def limit_rows(api, reached):
+def limit_lines(api, reached):
     """The public constants that are numbers."""
-    rows = []
+    lines = []
     for item in sorted(reached, key=lambda item: item[-1]):
         found = item[:-1] in api.raw and len(item) > 1 and api.declaration(item)
         value = found and found[0] == "const" and is_limit(found[2])
         if value:
-            rows.append(f"| `{item[-1]}` | {int(value[1]):,} | {cell(first_sentence(found[1]))} |")
-    return rows
-
-
-def unlisted(api, listed):
-    """What stands below the root and isn't listed: neither a law nor a module."""
-    found, left = set(), [ROOT]
-    while left:
-        at = left.pop()
-        if at is not None and at not in found:
-            found.add(at)
-            left += [api.items.item(at, (name,)) for name in api.items.public.get(at, ())]
-    rest = [item for item in found - listed if item not in api.items.sources and api.declaration(item)]
-    return sorted("::".join(item) for item in rest if api.lines(item))
+            lines.append(f"{item[-1]} = {int(value[1]):,}: {first_sentence(found[1])}")
+    return lines
 
 
 def module_lines(api, path, listed, hidden):
-    """The section of a module: what is listed nowhere before. What iceoryx2 hides of it is added to the hidden lines."""
-    at, lines = api.items.item(ROOT, tuple(path.split("::"))), []
+    """The lines of a module: what is listed nowhere before. What iceoryx2 hides of it is added to the hidden lines."""
+    at = api.items.item(ROOT, tuple(path.split("::"))) if path else ROOT
+    lines, below = [], f"{path}::" if path else ""
     for name in sorted(api.items.public[at]):
         item = api.items.item(at, (name,))
         if item is None or item in api.items.sources or item in listed or not api.declaration(item):
             continue
         listed.add(item)
         if api.is_hidden(item):
-            hidden += api.lines(item, f"{path}::")
+            hidden += api.lines(item, below)
         else:
             lines += api.lines(item)
-            hidden += api.hidden_methods(item, f"{path}::{name}")
-    return [f"## `{path}`", "", f"{MODULES[path][0].upper()}{MODULES[path][1:]}.", "", *lines, ""] if lines else []
+            hidden += api.hidden_methods(item, f"{below}{name}")
+    return lines
 
 
-def page():
-    """The text of the page."""
-    api = Api()
-    listed, sections, hidden = set(), [], []
-    for path in MODULES:
-        sections += module_lines(api, path, listed, hidden)
-    left = unlisted(api, listed)
-    if left:
-        sys.exit("tools/write-api has no module for " + ", ".join(left))
-    heads = [path for path in MODULES if f"## `{path}`" in sections]
-    lines = [HEAD_TEXT, "", " · ".join(f"[{path}](#{anchor(path)})" for path in heads + ["Hidden"]), ""]
-    lines += ["## Settings", "", SETTINGS_TEXT, "", "| pattern | setting | default | what it is |", "|---|---|---|---|"]
-    lines += setting_rows(api)
-    lines += ["", "## Limits", "", LIMITS_TEXT, "", "| constant | is | what it is |", "|---|---|---|"]
-    lines += limit_rows(api, listed) + [""]
-    sections += ["## Hidden", "", HIDDEN_TEXT, "", *hidden]
-    return "\n".join(lines + sections).rstrip("\n") + "\n"
+SETTINGS = """A builder starts from its node's `Config`, whose `default()` has these. A number is below 2^64. A setter sets
+the value with which a create makes the service. It also marks it, so that an open requires it: of a number at least as
+much, of all else the same."""
+LIMITS = """A longer or greater value is refused where it is made. A slot is below `SLOTS`, and an alignment is a power of
+two."""
+HIDDEN_HEAD = "iceoryx2 hides these from its documentation, and users rarely need them."
 
 
-HEAD_TEXT = """# What users name
-
-All of it stands below `iceoryx2_service`: `use iceoryx2_service::builder::Node;`. `tools/write-api` takes this page from the sources: each signature, and the first sentence of its comment,
-of a long one the first part. An item is listed once, at the first of its paths; in italics stands what a type implements of std, but for `Debug`, `Eq` and the like. The sources have more: units,
-limits, when each error comes, and the contract. [Differences](DIFFERENCES.md#what-is-not-in-iceoryx2) names the laws, and [Refusals](REFUSALS.md) has each error."""
-SETTINGS_TEXT = """A builder starts from its node's `Config`, whose `default()` has these. A number is from 0 to 2^64 - 1, and a truth value is yes or no. A setter sets the
-value with which a service is created, and marks it, so that an `open` requires it of a service that stands: of a number at least as much, of everything else the same."""
-LIMITS_TEXT = """What is longer, or more, is refused where the value is made. A slot is below `SLOTS`, and a type's alignment is a power of two."""
-HIDDEN_TEXT = """iceoryx2 hides these from its documentation, and users rarely need them."""
-
-
-def main():
-    text = page()
-    if "--check" in sys.argv[1:]:
-        if PAGE.is_file() and PAGE.read_text(encoding="utf-8") == text:
-            return 0
-        print("docs/API.md isn't what tools/write-api writes: run it")
-        return 1
-    PAGE.write_text(text, encoding="utf-8")
-    return 0
-
-
-if __name__ == "__main__":
-    sys.exit(main())
+def sections():
+    """The sections of what users name: settings, limits, each module, and what iceoryx2 hides."""
+    api, listed, hidden, found = Api(), set(), [], {}
+    for path in module_paths(api.items):
+        found[path or "root"] = module_lines(api, path, listed, hidden)
+    first = {"settings": [SETTINGS, "", *setting_lines(api)], "limits": [LIMITS, "", *limit_lines(api, listed)]}
+    found = {name: lines for name, lines in found.items() if lines}
+    return {**first, **found, "hidden": [HIDDEN_HEAD, "", *hidden]}
