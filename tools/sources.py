@@ -322,7 +322,7 @@ def changed(edit):
 
 def edits_of(item):
     """The wrong bodies that change a function or a constant."""
-    return [edit for edit in edits() if item in changed(edit)]
+    return [edit for edit in edits() if spec_of(edit.target)[0] == item.parts[0] and item in changed(edit)]
 
 
 def proofs_of(function):
