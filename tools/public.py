@@ -240,11 +240,11 @@ def module_lines(api, path, listed, hidden):
     return lines
 
 
-SETTINGS = """A builder starts from its node's `Config`, whose `default()` has these. A number is below 2^64. A setter sets
-the value with which a create makes the service. It also marks it, so that an open requires it: of a number at least as
-much, of all else the same."""
-LIMITS = """A longer or greater value is refused where it is made. A slot is below `SLOTS`, and an alignment is a power of
-two."""
+SETTINGS = """A builder starts from its node's `Config`, whose `default()` has these. A number is below 2^64.
+A setter sets the value with which a create makes the service. It also marks it, so that an open requires it: of a
+number at least as much, of all else the same."""
+LIMITS = """A longer or greater value is refused where it is made. A slot is below `SLOTS`.
+An alignment is a power of two."""
 HIDDEN_HEAD = "iceoryx2 hides these from its documentation, and users rarely need them."
 
 

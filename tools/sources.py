@@ -330,7 +330,9 @@ def proofs_of(function):
     crate, *modules, name = function.parts
     owner = modules.pop() if function.owned else ""
     folder = "/".join([*modules, *([owner + function.trait] if owner else []), name])
-    own = files(f"crates/{crate}/proofs/{folder}/*.antt") + files(f"crates/{crate}/proofs/{'/'.join(modules)}/+{name}/*.antt")
+    # A function that calls itself has a plus before its name there.
+    beside = "/".join([*modules, f"+{name}"])
+    own = files(f"crates/{crate}/proofs/{folder}/*.antt") + files(f"crates/{crate}/proofs/{beside}/*.antt")
     if own or not owner:
         return own
     # A method is below the module of its type, and a type or a trait with arguments has their names there too.
