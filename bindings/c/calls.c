@@ -269,7 +269,7 @@ static void lines(void)
     closes(session);
 }
 
-/* The names and texts of refusals, as docs/REFUSALS.md has them. */
+/* The names and texts of refusals, as `tools/write-refusals` prints them. */
 static void refusals(void)
 {
     char text[512];

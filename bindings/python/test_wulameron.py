@@ -96,8 +96,7 @@ class Calls(unittest.TestCase):
             self.assertIs(error.exception.code, w.Code.ONLY_OVER_LOG)
 
     def test_refusals(self):
-        """A refusal has the class of its enum, its name and its texts, which docs/REFUSALS.md has too."""
-        page = (HERE.parent.parent / "docs/REFUSALS.md").read_text(encoding="utf-8")
+        """A refusal has the class of its enum, its name and its texts, which `tools/write-refusals` prints too."""
         with w.Session() as session:
             session.begin(w.PUBLISH_SUBSCRIBE, w.OPEN, 1, "camera")
             with self.assertRaises(w.PublishSubscribeOpenError) as refused:
@@ -105,9 +104,9 @@ class Calls(unittest.TestCase):
             error = refused.exception
             self.assertEqual((error.code, error.refusal, error.value), (w.Code.REFUSED, 4001, "DoesNotExist"))
             self.assertEqual(error.name, "PublishSubscribeOpenError::DoesNotExist")
-            section = page.partition("### `PublishSubscribeOpenError`")[2]
-            row = section[section.index("| `DoesNotExist` |") :].partition("\n")[0]
-            self.assertEqual(row, f"| `DoesNotExist` | {error.text} | {error.advice} |")
+        row = subprocess.run([HERE.parent.parent / "tools/write-refusals", "4001"], check=True, capture_output=True, text=True)
+        texts = f"  comes when: {error.text}\n  what can be done: {error.advice}\n"
+        self.assertEqual(row.stdout, f"4001 {error.name}\n{texts}")
 
     def test_numbers(self):
         """The numbers here are those of the header, and so are the codes."""
