@@ -4,8 +4,8 @@ set -eu
 top=$(cd "$(dirname "${BASH_SOURCE[0]}")/.." && pwd)
 scratch=${BENCHMARK_FOLDER:-/tmp/negotiation-benchmark}
 sources=/usr/share/cargo/registry
-libraries="iceoryx2_session iceoryx2_commands iceoryx2_builder iceoryx2_large_table iceoryx2_table iceoryx2_world"
-libraries="$libraries iceoryx2_access iceoryx2_byte_form iceoryx2_description iceoryx2_attribute"
+libraries="iceoryx2_session iceoryx2_builder iceoryx2_large_table iceoryx2_table iceoryx2_world"
+libraries="$libraries iceoryx2_access iceoryx2_data iceoryx2_description iceoryx2_attribute"
 driver=$scratch/driver/target/release/driver
 
 # Tells how far a script is, and how many seconds it took up to here.

@@ -1,7 +1,7 @@
 """The bytes of a log's file: its header, its entries, what stands after the last of them, and descriptions.
 
 Made from docs/LOG_FORM.md and docs/BYTE_FORM.md alone, as a second reader beside iceoryx2_file_log, iceoryx2_log and
-iceoryx2_byte_form.
+iceoryx2_data.
 """
 import hashlib
 from dataclasses import dataclass

@@ -2,8 +2,8 @@
 
 use crate::words::{first_word, number};
 use crate::wrong::Wrong;
-use iceoryx2_byte_form::bytes::decode;
-use iceoryx2_commands::command::{Call, Command};
+use iceoryx2_builder::command::{Call, Command};
+use iceoryx2_data::bytes::decode;
 use iceoryx2_description::description::StaticConfig;
 use std::alloc::{AllocError, Global};
 use test_support::lines::{command_in, created};

@@ -2,7 +2,7 @@
 
 use crate::descriptions::bytes_in;
 use crate::wrong::Wrong;
-use iceoryx2_byte_form::bytes::{DecodeError, decode};
+use iceoryx2_data::bytes::{DecodeError, decode};
 use std::alloc::Global;
 use test_support::terms::write_service;
 

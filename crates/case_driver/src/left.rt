@@ -2,7 +2,7 @@
 
 use crate::known::Known;
 use crate::subject::{Seen, Subject};
-use iceoryx2_commands::command::Reply;
+use iceoryx2_builder::command::Reply;
 use iceoryx2_description::description::ServiceHash;
 use iceoryx2_world::listing::{Entry, ListedRow, ListedSegment};
 use negotiate_serve::reply::describe;

@@ -11,7 +11,7 @@ use crate::words::{first_word, named, number};
 use crate::wrong::{Wrong, write_answer};
 use crate::{accesses, starve};
 use iceoryx2_access::storage::{Service, Sha1Hasher, Storage};
-use iceoryx2_byte_form::bytes::encode;
+use iceoryx2_data::bytes::encode;
 use iceoryx2_testing::script::Faulty;
 use negotiate_serve::reply::describe;
 use std::alloc::{AllocError, Global};

@@ -2,7 +2,7 @@
 
 use crate::support::{assert_prints, assert_same};
 use iceoryx2_attribute::attribute::{AttributeError, AttributeSet, AttributeSpecifier};
-use iceoryx2_byte_form::bytes::DecodeError;
+use iceoryx2_data::bytes::DecodeError;
 use iceoryx2_description::description::{ServiceHash, ServiceNameError};
 use iceoryx2_description::time::{Duration, Time};
 use std::alloc::Global;

@@ -2,11 +2,11 @@
 use Rattle.std.proofs.Common.{◌≡◌, ℕ, Bool, true, false, List, [], ◌∷◌, Result, Ok, Err, OnOk, codes, refl, ap, ◌∙◌}
 use Rattle.std.specs.declared.alloc.AllocError.{AllocError}
 use Rattle.std.specs.Str.{IsUtf8}
-use Rattle.iceoryx2_commands.specs.declared.command.Call.{Call}
-use Rattle.iceoryx2_commands.specs.declared.command.Command.{Command}
-use Rattle.iceoryx2_commands.specs.declared.command.Command.TheVariants as command
-use Rattle.iceoryx2_commands.specs.declared.command.Settings.{Settings}
-use Rattle.iceoryx2_commands.specs.declared.command.Settings.TheVariants as settings
+use Rattle.iceoryx2_builder.specs.declared.command.Call.{Call}
+use Rattle.iceoryx2_builder.specs.declared.command.Command.{Command}
+use Rattle.iceoryx2_builder.specs.declared.command.Command.TheVariants as command
+use Rattle.iceoryx2_builder.specs.declared.command.Settings.{Settings}
+use Rattle.iceoryx2_builder.specs.declared.command.Settings.TheVariants as settings
 use Rattle.negotiate_lines.specs.declared.leaf.Form.TheVariants as form
 use Rattle.negotiate_lines.specs.declared.line.Line.{Line}
 use Rattle.negotiate_lines.specs.declared.line.Line.TheVariants as line

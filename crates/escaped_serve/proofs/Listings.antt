@@ -1,8 +1,8 @@
 -- What describes an entry of a listing.
 use Rattle.std.proofs.Common.{◌≡◌, ℕ, List, None, sym, subst, ◌∙◌}
-use Rattle.iceoryx2_byte_form.specs.Form.{IsForm}
-use Rattle.iceoryx2_byte_form.specs.declared.bytes.DecodeError.{DecodeError}
-use Rattle.iceoryx2_byte_form.specs.declared.bytes.DecodeError.TheVariants as decode
+use Rattle.iceoryx2_data.specs.Form.{IsForm}
+use Rattle.iceoryx2_data.specs.declared.bytes.DecodeError.{DecodeError}
+use Rattle.iceoryx2_data.specs.declared.bytes.DecodeError.TheVariants as decode
 use Rattle.iceoryx2_description.specs.Description.{Description}
 use Rattle.iceoryx2_world.specs.declared.listing.ListedRow.{ListedRow}
 use Rattle.iceoryx2_world.specs.declared.listing.ListedRow.TheVariants as row

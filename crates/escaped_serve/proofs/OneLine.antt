@@ -6,12 +6,12 @@ use Rattle.std.proofs.lemmas.Bool.Decides.{nat_tests}
 use Rattle.std.proofs.lemmas.List.Elements.{All-append, All-cons, All-head, All-nil, All-tail}
 use Rattle.hex.specs.Hex.{encode_lower, encode_with, lower_digits}
 use Rattle.iceoryx2_access.specs.Registered.{Registered}
-use Rattle.iceoryx2_byte_form.proofs.EachByte.{form_bytes}
-use Rattle.iceoryx2_commands.specs.Commands.{slot_count}
+use Rattle.iceoryx2_data.proofs.EachByte.{form_bytes}
+use Rattle.iceoryx2_builder.specs.Commands.{slot_count}
 use Rattle.iceoryx2_errors.specs.declared.refusal.Refusal.{Refusal}
 use Rattle.iceoryx2_errors.specs.declared.refusal.Refusal.TheVariants as refusal
-use Rattle.iceoryx2_commands.specs.declared.command.Reply.{Reply}
-use Rattle.iceoryx2_commands.specs.declared.command.Reply.TheVariants as reply
+use Rattle.iceoryx2_builder.specs.declared.command.Reply.{Reply}
+use Rattle.iceoryx2_builder.specs.declared.command.Reply.TheVariants as reply
 use Rattle.iceoryx2_description.specs.Description.{IsDeadline, IsDescription, IsPattern}
 use Rattle.iceoryx2_description.specs.declared.event.Deadline.{Deadline}
 use Rattle.iceoryx2_description.specs.declared.description.MessagingPattern.{MessagingPattern}
@@ -30,7 +30,7 @@ use Rattle.iceoryx2_world.specs.declared.listing.Entry.{Entry}
 use Rattle.iceoryx2_world.specs.declared.listing.ListedRow.{ListedRow}
 use Rattle.iceoryx2_world.specs.declared.listing.ListedRow.TheVariants as row
 use Rattle.iceoryx2_world.specs.declared.listing.ListedSegment.{ListedSegment}
-use Rattle.negotiate_explain.specs.Refusals.{refusal_row}
+use Rattle.explain_serve.specs.Refusals.{refusal_row}
 use Rattle.negotiate_lines.specs.Leaves.{leaf_of}
 use Rattle.negotiate_serve.specs.Replies.{pattern_term}
 use Rattle.iceoryx2_errors.specs.Texts.{text_of}

@@ -1,7 +1,7 @@
 -- Lines of an escaped session, and what is written of them.
 use Rattle.std.proofs.Common.{◌≡◌, ℕ, List, [], ◌++◌, Result, Ok, Err, OnOk, codes, refl, sym, ap, subst, ◌∙◌, append-nil}
 use Rattle.std.specs.declared.alloc.AllocError.{AllocError}
-use Rattle.iceoryx2_commands.specs.declared.command.Command.{Command}
+use Rattle.iceoryx2_builder.specs.declared.command.Command.{Command}
 use Rattle.negotiate_lines.specs.Leaves.{leaf_of}
 use Rattle.negotiate_lines.specs.Lines.{IsLine}
 use Rattle.negotiate_lines.specs.WrongTexts.{IsWrongText}

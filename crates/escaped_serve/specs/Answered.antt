@@ -1,7 +1,7 @@
 -- What a session over a table of its own answers.
 use Rattle.std.specs.Prelude.{◌≡◌, ℕ, List}
-use Rattle.iceoryx2_commands.specs.declared.command.Command.{Command}
-use Rattle.iceoryx2_commands.specs.declared.command.Reply.{Reply}
+use Rattle.iceoryx2_builder.specs.declared.command.Command.{Command}
+use Rattle.iceoryx2_builder.specs.declared.command.Reply.{Reply}
 use Rattle.iceoryx2_description.specs.Defaults.{default_config}
 use Rattle.iceoryx2_session.specs.QuietSessions.{IsQuiet, Moves}
 use Rattle.iceoryx2_session.specs.Sessions.{SessionState}

@@ -1,8 +1,8 @@
 -- Which answers are one line.
 use Rattle.std.specs.Prelude.{◌≡◌, ◌<◌, ◌^◌, ℕ, List, ◌++◌, All, Option, Some, None, codes}
 use Rattle.iceoryx2_access.specs.Registered.{Registered}
-use Rattle.iceoryx2_commands.specs.declared.command.Reply.{Reply}
-use Rattle.iceoryx2_commands.specs.declared.command.Reply.TheVariants as reply
+use Rattle.iceoryx2_builder.specs.declared.command.Reply.{Reply}
+use Rattle.iceoryx2_builder.specs.declared.command.Reply.TheVariants as reply
 use Rattle.iceoryx2_description.specs.Description.{IsDescription, IsHash}
 use Rattle.iceoryx2_world.specs.declared.listing.Entry.{Entry}
 use Rattle.escaped_serve.specs.Asking.{IsPrintable}

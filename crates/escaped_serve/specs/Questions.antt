@@ -3,7 +3,7 @@ use Rattle.std.specs.Prelude.{◌≡◌, ℕ, List, ◌++◌, Option, Some, None
 use Rattle.std.specs.Option.{option_map}
 use Rattle.hex.specs.Hex.{encode_lower}
 use Rattle.iceoryx2_access.specs.Registered.{Registered}
-use Rattle.iceoryx2_byte_form.specs.Form.{IsForm}
+use Rattle.iceoryx2_data.specs.Form.{IsForm}
 use Rattle.iceoryx2_errors.specs.declared.refusal.Refusal.{Refusal}
 use Rattle.iceoryx2_description.specs.Span.{Span}
 use Rattle.iceoryx2_description.specs.declared.description.MessagingPattern.{MessagingPattern}
@@ -13,7 +13,7 @@ use Rattle.iceoryx2_session.specs.Slots.{held_at}
 use Rattle.iceoryx2_world.specs.Listing.{Lists}
 use Rattle.iceoryx2_world.specs.World.{World}
 use Rattle.iceoryx2_world.specs.declared.listing.Entry.{Entry}
-use Rattle.negotiate_explain.specs.Refusals.{refusal_row}
+use Rattle.explain_serve.specs.Refusals.{refusal_row}
 use Rattle.negotiate_lines.specs.Leaves.{leaf_of}
 use Rattle.negotiate_lines.specs.declared.question.Question.{Question}
 use Rattle.negotiate_lines.specs.declared.question.Question.TheVariants as question

@@ -15,7 +15,7 @@ ghost use Rattle.escaped_serve.specs.Replies.{IsEscapedReply};
 
 use crate::questions::answer_question;
 use crate::reply::describe_escaped;
-use iceoryx2_commands::command::Command;
+use iceoryx2_builder::command::Command;
 use iceoryx2_description::config::Config;
 use iceoryx2_session::session::Session;
 use iceoryx2_table::table::Table;

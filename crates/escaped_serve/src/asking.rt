@@ -6,7 +6,7 @@ ghost use Rattle.iceoryx2_description.specs.declared.event.StaticConfig.{StaticC
 ghost use Rattle.iceoryx2_description.specs.declared.publish_subscribe.StaticConfig.{StaticConfig as SampleConfig};
 ghost use Rattle.iceoryx2_description.specs.declared.request_response.StaticConfig.{StaticConfig as RequestConfig};
 ghost use Rattle.iceoryx2_event_builder.specs.Event.{deadline_value as value_of};
-ghost use Rattle.iceoryx2_commands.specs.Commands.{slot_count};
+ghost use Rattle.iceoryx2_builder.specs.Commands.{slot_count};
 ghost use Rattle.negotiate_lines.specs.declared.leaf.Form.TheVariants as form;
 ghost use Rattle.negotiate_lines.specs.declared.line.Line.{Line};
 ghost use Rattle.negotiate_lines.specs.Leaves.{leaf_of};

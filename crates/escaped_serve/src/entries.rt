@@ -6,7 +6,7 @@ ghost use Rattle.escaped_serve.specs.Entries.{AreEntryTexts, Describes, IsEntryT
 ghost use Rattle.escaped_serve.specs.Entries.{known_name, known_pattern, max_nodes_of, nodes_of, service_number};
 ghost use Rattle.escaped_serve.specs.Entries.{state_term};
 
-use iceoryx2_byte_form::bytes::{DecodeError, decode};
+use iceoryx2_data::bytes::{DecodeError, decode};
 use iceoryx2_description::description::StaticConfig;
 use iceoryx2_world::listing::{Entry, ListedRow, ListedSegment};
 use negotiate_lines::leaf::escape_leaf;

@@ -2,8 +2,8 @@
 
 ghost use Rattle.std.specs.Prelude.{◌≡◌, ◌<◌, ◌^◌, ℕ, All, List, Option, length};
 ghost use Rattle.iceoryx2_access.specs.Registered.{Registered};
-ghost use Rattle.iceoryx2_commands.specs.Commands.{slot_count};
-ghost use Rattle.iceoryx2_commands.specs.declared.command.Reply.{Reply};
+ghost use Rattle.iceoryx2_builder.specs.Commands.{slot_count};
+ghost use Rattle.iceoryx2_builder.specs.declared.command.Reply.{Reply};
 ghost use Rattle.iceoryx2_world.specs.declared.listing.Entry.{Entry};
 ghost use Rattle.escaped_serve.specs.Entries.{TellsEntries};
 ghost use Rattle.escaped_serve.specs.Lines.{plain_reply, wrong_reply};

@@ -15,14 +15,14 @@ ghost use Rattle.escaped_serve.specs.Questions.{refusal_reply, shown_reply, time
 
 use crate::asking::write_asking;
 use crate::entries::describe_entries;
-use iceoryx2_byte_form::bytes::encode;
-use iceoryx2_commands::command::Refusal;
+use explain_serve::refusals::RefusalRow;
+use iceoryx2_builder::command::Refusal;
+use iceoryx2_data::bytes::encode;
 use iceoryx2_description::description::{MessagingPattern, StaticConfig};
 use iceoryx2_description::time::Time;
 use iceoryx2_rounds::port_factory::Registration;
 use iceoryx2_session::session::Session;
 use iceoryx2_session::world_storage::WorldStorage;
-use negotiate_explain::refusals::RefusalRow;
 use negotiate_lines::leaf::escape_leaf;
 use negotiate_lines::question::Question;
 use std::alloc::{AllocError, Global};

@@ -4,7 +4,7 @@ ghost use Rattle.std.specs.Prelude.{◌≡◌, ◌++◌, OnOk, string_bytes};
 ghost use Rattle.negotiate_serve.specs.Replies.{GrowsBy};
 ghost use Rattle.escaped_serve.specs.Replies.{IsEscapedReply, refused_reply};
 
-use iceoryx2_commands::command::{Refusal, Reply};
+use iceoryx2_builder::command::{Refusal, Reply};
 use negotiate_lines::leaf::Form;
 use negotiate_serve::reply::{describe, describe_services};
 use std::alloc::AllocError;

@@ -1,9 +1,9 @@
 -- A line that is a call is nothing else.
 use Rattle.std.proofs.Common.{◌≡◌, ℕ, Bool, true, false, ◌||◌, nat_eq, List, [], ◌∷◌, Some, None, get_or, refl, ap, ◌∙◌, subst}
-use Rattle.iceoryx2_commands.specs.declared.command.Call.{Call}
-use Rattle.iceoryx2_commands.specs.declared.command.Command.TheVariants as command
-use Rattle.iceoryx2_commands.specs.declared.command.Settings.{Settings}
-use Rattle.iceoryx2_commands.specs.declared.command.Settings.TheVariants as settings
+use Rattle.iceoryx2_builder.specs.declared.command.Call.{Call}
+use Rattle.iceoryx2_builder.specs.declared.command.Command.TheVariants as command
+use Rattle.iceoryx2_builder.specs.declared.command.Settings.{Settings}
+use Rattle.iceoryx2_builder.specs.declared.command.Settings.TheVariants as settings
 use Rattle.negotiate_lines.specs.declared.line.Line.{Line}
 use Rattle.negotiate_lines.specs.declared.line.Line.TheVariants as line
 use Rattle.negotiate_lines.specs.declared.leaf.Form.TheVariants as form

@@ -6,16 +6,16 @@ use Rattle.iceoryx2_testing.specs.Trace.{TracedState}
 use Rattle.iceoryx2_world.specs.declared.listing.Entry.{Entry}
 use Rattle.iceoryx2_world.specs.Listing.{Lists}
 use Rattle.iceoryx2_world.specs.World.{World}
-use Rattle.iceoryx2_commands.specs.declared.command.Call.{Call}
+use Rattle.iceoryx2_builder.specs.declared.command.Call.{Call}
 use Rattle.iceoryx2_errors.specs.declared.refusal.Refusal.{Refusal}
-use Rattle.iceoryx2_commands.specs.declared.command.Reply.{Reply}
+use Rattle.iceoryx2_builder.specs.declared.command.Reply.{Reply}
 use Rattle.negotiate_serve.specs.Replies.{GrowsBy, IsReplyText}
 use Rattle.negotiate_lines.specs.Lines.{without_last}
-use Rattle.negotiate_explain.specs.Accesses.{trace_lines}
-use Rattle.negotiate_explain.specs.Diagrams.{messages, note_line}
-use Rattle.negotiate_explain.specs.Offers.{offer_lines}
-use Rattle.negotiate_explain.specs.Refusals.{refusal_row, row_lines}
-use Rattle.negotiate_explain.specs.Standing.{IsFound}
+use Rattle.explain_serve.specs.Accesses.{trace_lines}
+use Rattle.explain_serve.specs.Diagrams.{messages, note_line}
+use Rattle.explain_serve.specs.Offers.{offer_lines}
+use Rattle.explain_serve.specs.Refusals.{refusal_row, row_lines}
+use Rattle.explain_serve.specs.Standing.{IsFound}
 use Rattle.explain_serve.specs.Explained.{found_lines, IsFoundText, IsCallLine, IsRefusalText, refusal_of, IsReasonText, IsTextInLines, IsTextInDiagram}
 
 -- ---- the service that was found

@@ -4,3 +4,7 @@ pub mod LineFeeds
 pub mod Printing
 pub mod Described
 pub mod Traces
+pub mod Asked
+pub mod Found
+pub mod TextLines
+pub mod Parts

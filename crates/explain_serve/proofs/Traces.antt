@@ -11,11 +11,11 @@ use Rattle.iceoryx2_call_laws.proofs.calls.Words.{close_is_short}
 use Rattle.iceoryx2_testing.specs.Entries.{entry_of}
 use Rattle.iceoryx2_testing.specs.Trace.{IsTracedAccess, TracedState, latest}
 use Rattle.iceoryx2_testing.proofs.TraceRuns.{latest_entries, bound, same_room, total}
-use Rattle.iceoryx2_commands.specs.declared.command.Command.{Command}
-use Rattle.iceoryx2_commands.specs.declared.command.Command.TheVariants as command
+use Rattle.iceoryx2_builder.specs.declared.command.Command.{Command}
+use Rattle.iceoryx2_builder.specs.declared.command.Command.TheVariants as command
 use Rattle.iceoryx2_errors.specs.declared.refusal.Refusal.{Refusal}
-use Rattle.iceoryx2_commands.specs.declared.command.Reply.{Reply}
-use Rattle.iceoryx2_commands.specs.declared.command.Reply.TheVariants as reply
+use Rattle.iceoryx2_builder.specs.declared.command.Reply.{Reply}
+use Rattle.iceoryx2_builder.specs.declared.command.Reply.TheVariants as reply
 use Rattle.iceoryx2_session.proofs.Shown.{goes_along}
 use Rattle.iceoryx2_session.specs.CommandWords.{IsBuilderWord, IsCommandWord, AppliesAlong, SpansTraced}
 use Rattle.iceoryx2_session.specs.PatternCalls.{PatternCall}

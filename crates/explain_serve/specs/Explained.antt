@@ -5,22 +5,22 @@ use Rattle.iceoryx2_testing.specs.Trace.{TracedState}
 use Rattle.iceoryx2_world.specs.declared.listing.Entry.{Entry}
 use Rattle.iceoryx2_world.specs.Listing.{Lists}
 use Rattle.iceoryx2_world.specs.World.{World}
-use Rattle.iceoryx2_commands.specs.declared.command.Call.{Call}
-use Rattle.iceoryx2_commands.specs.declared.command.Command.{Command}
-use Rattle.iceoryx2_commands.specs.declared.command.Command.TheVariants as command
+use Rattle.iceoryx2_builder.specs.declared.command.Call.{Call}
+use Rattle.iceoryx2_builder.specs.declared.command.Command.{Command}
+use Rattle.iceoryx2_builder.specs.declared.command.Command.TheVariants as command
 use Rattle.iceoryx2_errors.specs.declared.refusal.Refusal.{Refusal}
-use Rattle.iceoryx2_commands.specs.declared.command.Reply.{Reply}
-use Rattle.iceoryx2_commands.specs.declared.command.Reply.TheVariants as reply
+use Rattle.iceoryx2_builder.specs.declared.command.Reply.{Reply}
+use Rattle.iceoryx2_builder.specs.declared.command.Reply.TheVariants as reply
 use Rattle.negotiate_lines.specs.declared.line.Line.{Line}
 use Rattle.negotiate_lines.specs.declared.line.Line.TheVariants as kind
 use Rattle.negotiate_lines.specs.Lines.{IsLine, without_last}
 use Rattle.negotiate_serve.specs.Replies.{IsReplyText}
 use Rattle.negotiate_serve.specs.Transcripts.{slot_named}
-use Rattle.negotiate_explain.specs.Accesses.{trace_lines}
-use Rattle.negotiate_explain.specs.Diagrams.{messages, note_line}
-use Rattle.negotiate_explain.specs.Offers.{offer_lines}
-use Rattle.negotiate_explain.specs.Refusals.{refusal_row, row_lines}
-use Rattle.negotiate_explain.specs.Standing.{IsFound}
+use Rattle.explain_serve.specs.Accesses.{trace_lines}
+use Rattle.explain_serve.specs.Diagrams.{messages, note_line}
+use Rattle.explain_serve.specs.Offers.{offer_lines}
+use Rattle.explain_serve.specs.Refusals.{refusal_row, row_lines}
+use Rattle.explain_serve.specs.Standing.{IsFound}
 use Rattle.explain_serve.specs.declared.format.Format.{Format}
 use Rattle.explain_serve.specs.declared.format.Format.TheVariants as format
 use Rattle.explain_serve.specs.Traces.{TracedSession, made_between, table_world}

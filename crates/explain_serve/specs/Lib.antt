@@ -2,3 +2,13 @@ pub mod Answered
 pub mod Explained
 pub mod Formats
 pub mod Traces
+pub mod Accesses
+pub mod Attributes
+pub mod Comparisons
+pub mod Diagrams
+pub mod Messages
+pub mod Offers
+pub mod Refusals
+pub mod Rows
+pub mod Settings
+pub mod Standing

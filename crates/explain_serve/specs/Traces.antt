@@ -7,9 +7,9 @@ use Rattle.iceoryx2_testing.specs.Entries.{entry_of}
 use Rattle.iceoryx2_testing.specs.Trace.{TracedState, IsTracedAccess, latest}
 use Rattle.iceoryx2_world.specs.World.{World, empty_world}
 use Rattle.iceoryx2_world.specs.Tables.{TableState, IsTableAccess}
-use Rattle.iceoryx2_commands.specs.Commands.{slot_count}
-use Rattle.iceoryx2_commands.specs.declared.command.Command.{Command}
-use Rattle.iceoryx2_commands.specs.declared.command.Reply.{Reply}
+use Rattle.iceoryx2_builder.specs.Commands.{slot_count}
+use Rattle.iceoryx2_builder.specs.declared.command.Command.{Command}
+use Rattle.iceoryx2_builder.specs.declared.command.Reply.{Reply}
 use Rattle.iceoryx2_session.specs.CommandWords.{IsCommandWord}
 use Rattle.iceoryx2_session.specs.Sessions.{SessionOver, SessionState, AppliesBy, shown_session}
 

@@ -5,9 +5,9 @@ ghost use Rattle.negotiate_lines.specs.Lines.{without_last};
 ghost use Rattle.negotiate_serve.specs.Replies.{GrowsBy};
 ghost use Rattle.explain_serve.specs.Explained.{IsTextInDiagram};
 
-use iceoryx2_commands::command::Reply;
+use crate::diagram::{draw_accesses, draw_note};
+use iceoryx2_builder::command::Reply;
 use iceoryx2_testing::traced::Traced;
-use negotiate_explain::diagram::{draw_accesses, draw_note};
 use negotiate_serve::reply::describe;
 use std::alloc::AllocError;
 

@@ -10,7 +10,7 @@ ghost use Rattle.explain_serve.specs.Traces.{fresh_trace};
 use crate::drawing::draw_reply;
 use crate::format::Format;
 use crate::lines::describe_lines;
-use iceoryx2_commands::command::Command;
+use iceoryx2_builder::command::Command;
 use iceoryx2_description::config::Config;
 use iceoryx2_session::session::Session;
 use iceoryx2_table::table::Table;

@@ -3,7 +3,7 @@
 ghost use Rattle.std.specs.Prelude.{◌≡◌};
 ghost use Rattle.explain_serve.specs.Formats.{format_named, head_of};
 
-use negotiate_explain::diagram::HEAD;
+use crate::diagram::HEAD;
 
 /// What is printed of a command.
 #[derive(Clone, Copy, Debug, PartialEq, Eq)]

@@ -9,10 +9,27 @@
 //!
 //! `Explainer::new` begins over an empty table with room for 264 accesses, and no command makes more; `finish`
 //! leaves nothing (`HasNothing`). `Format::named`: `--diagram` asks for a diagram, and no other text for anything.
+//!
+//! What is printed after a reply: the accesses of the call, and for a refusal when it comes, what can be done, and what
+//! was required and offered. Each function writes to a text that grows by exactly its lines; where memory runs out it may
+//! have a part of them. `describe_accesses`: a line for each of the latest accesses, and before them how many aren't kept
+//! (`trace_lines`). `refusals::RefusalRow::of`, `describe_row`: each refusal has the row of its reason
+//! (`refusal_row`); `tools/check-docs` compares the texts with docs/REFUSALS.md.
+//!
+//! `settings::describe_offer`: for an error that names a setting, each setter of that name that no later one sets
+//! again, with the value that it requires and the one that is offered (`required_lines`); of types, each part of
+//! the messages (`message_lines`); of attributes, the first key that is lacking (`lacking_lines`); else nothing
+//! (`offer_lines`). `draw_accesses` and `draw_note` are exact (`messages`, `note_line`). `standing::service_of`:
+//! the listed description of the call's name and pattern, and none exactly where there is none (`IsFound`).
 #![tactic(auto)]
 
+pub mod accesses;
+pub mod diagram;
 pub mod drawing;
 pub mod explainer;
 pub mod format;
 pub mod lines;
+pub mod refusals;
 pub mod serve;
+pub mod settings;
+pub mod standing;

@@ -1,18 +1,18 @@
 //! What is printed of a reply in lines.
 
 ghost use Rattle.std.specs.Prelude.{◌≡◌, OnOk, string_bytes};
-ghost use Rattle.iceoryx2_commands.specs.declared.command.Call.{Call};
+ghost use Rattle.iceoryx2_builder.specs.declared.command.Call.{Call};
 ghost use Rattle.negotiate_serve.specs.Replies.{GrowsBy};
 ghost use Rattle.explain_serve.specs.Explained.{IsCallLine, MayHaveReason, IsFoundText, IsTextInLines, IsRefusalText};
 ghost use Rattle.explain_serve.specs.Explained.{call_of, refusal_of};
 
-use iceoryx2_commands::command::{Call, Command, Refusal, Reply};
+use crate::accesses::describe_accesses;
+use crate::refusals::describe_row;
+use crate::settings::describe_offer;
+use crate::standing::service_of;
+use iceoryx2_builder::command::{Call, Command, Refusal, Reply};
 use iceoryx2_session::world_storage::WorldStorage;
 use iceoryx2_testing::traced::Traced;
-use negotiate_explain::accesses::describe_accesses;
-use negotiate_explain::refusals::describe_row;
-use negotiate_explain::settings::describe_offer;
-use negotiate_explain::standing::service_of;
 use negotiate_lines::line::{self, Line};
 use negotiate_serve::reply::describe;
 use std::alloc::AllocError;

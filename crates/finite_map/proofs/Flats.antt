@@ -4,7 +4,7 @@ use Rattle.std.proofs.Common.{length-append, append_assoc}
 use Rattle.std.specs.List.{insert, remove}
 use Rattle.std.proofs.lemmas.List.{set_split, get_or-append-add, get_or_append_left, set-append_right, set-append_left, take_all, get_or_default}
 use Rattle.std.proofs.lemmas.List.Edits.{insert-append_left, insert-append_right, remove-append_left, remove-append_right}
-use Rattle.sorted_map.specs.Sorted.{Sorted}
+use Rattle.finite_map.specs.Sorted.{Sorted}
 use Rattle.finite_map.specs.Chunks.{flat, chunk_at, before, with_value_at}
 
 module _ {X : Type 0} (xs ys zs : List X) (j : ℕ) where

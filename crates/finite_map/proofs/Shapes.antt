@@ -6,7 +6,7 @@ use Rattle.std.proofs.lemmas.List.{length-set, get_or_default, length-take-le, l
 use Rattle.std.proofs.lemmas.List.Elements.{All-set, All-append, All-take, All-drop, All-cons}
 use Rattle.std.proofs.lemmas.List.Edits.{length-insert}
 use Rattle.std.proofs.lemmas.Bool.{cases_lt}
-use Rattle.sorted_map.specs.Sorted.{Sorted}
+use Rattle.finite_map.specs.Sorted.{Sorted}
 use Rattle.finite_map.specs.Chunks.{flat, chunk_at, before, IsShaped, IsOpenAt}
 use Rattle.finite_map.proofs.Flats.{chunk_is, before-suc}
 

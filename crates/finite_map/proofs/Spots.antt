@@ -10,10 +10,10 @@ use Rattle.std.specs.declared.cmp.Ordering.TheVariants.{Less, Equal, Greater}
 use Rattle.std.specs.Cmp.{IsTotalOrder}
 use Rattle.std.proofs.lemmas.Bool.{cases_lt}
 use Rattle.std.proofs.lemmas.List.{get_or_default, get_or_past}
-use Rattle.sorted_map.specs.Sorted.{Sorted}
-use Rattle.sorted_map.specs.Places.{Gap, TiesAt, LessBefore, GreaterFrom}
-use Rattle.sorted_map.proofs.Edits.{true_T, T_true, split_both, answers_rise}
-use Rattle.sorted_map.proofs.Ranks.{place_ties, place_gap, ties_of, gap_of}
+use Rattle.finite_map.specs.Sorted.{Sorted}
+use Rattle.finite_map.specs.Places.{Gap, TiesAt, LessBefore, GreaterFrom}
+use Rattle.finite_map.proofs.Edits.{true_T, T_true, split_both, answers_rise}
+use Rattle.finite_map.proofs.Ranks.{place_ties, place_gap, ties_of, gap_of}
 use Rattle.finite_map.specs.Chunks.{flat, chunk_at, before, IsShaped, StandsIn, IsChunkOf, first_order}
 use Rattle.finite_map.proofs.Flats.{chunk_is, there, read_at, fits, before-suc, before_all, before-le, flat_around}
 

@@ -8,9 +8,9 @@ use Rattle.std.specs.declared.cmp.Ordering.{Ordering}
 use Rattle.std.specs.Cmp.{IsTotalOrder}
 use Rattle.std.proofs.lemmas.List.{get_or_default, get_or-set_same, length-set, take-set}
 use Rattle.std.proofs.lemmas.List.Edits.{length-insert, length-remove}
-use Rattle.sorted_map.specs.Sorted.{Sorted}
-use Rattle.sorted_map.specs.Places.{place_in}
-use Rattle.sorted_map.proofs.Maps.{get_at, get_gap, set_at, insert_at, remove_at, remove_gap, sorted-remove, sorted_by, map_by}
+use Rattle.finite_map.specs.Sorted.{Sorted}
+use Rattle.finite_map.specs.Places.{place_in}
+use Rattle.finite_map.proofs.Maps.{get_at, get_gap, set_at, insert_at, remove_at, remove_gap, sorted-remove, sorted_by, map_by}
 use Rattle.finite_map.specs.Chunks.{flat, chunk_at, before, chunked, StandsIn, HasRoomIn, IsOpenAt, IsShaped, with_value_at}
 use Rattle.finite_map.proofs.Flats.{chunk_is, there, read_at, insert_in, set_in, same_in, with_value_is}
 use Rattle.finite_map.proofs.Shapes.{shaped-set}

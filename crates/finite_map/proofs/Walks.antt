@@ -8,8 +8,8 @@ use Rattle.std.specs.declared.cmp.Ordering.{Ordering}
 use Rattle.std.specs.Cmp.{IsTotalOrder}
 use Rattle.std.proofs.lemmas.Bool.{cases_lt}
 use Rattle.std.proofs.lemmas.List.{drop_more, drop_all}
-use Rattle.sorted_map.specs.Sorted.{Sorted}
-use Rattle.sorted_map.proofs.Maps.{entries_are}
+use Rattle.finite_map.specs.Sorted.{Sorted}
+use Rattle.finite_map.proofs.Maps.{entries_are}
 use Rattle.finite_map.specs.Chunks.{flat, chunk_at, before, chunked, rest_from, IsShaped}
 use Rattle.finite_map.specs.Maps.{GoesOn}
 use Rattle.finite_map.proofs.Flats.{there, read_at, fits, before-suc, before_all}

@@ -6,8 +6,8 @@ use Rattle.std.specs.FinMap as map
 use Rattle.std.specs.FinMap.{FinMap}
 use Rattle.std.specs.declared.cmp.Ordering.{Ordering}
 use Rattle.std.specs.declared.cmp.Ordering.TheVariants.{Greater}
-use Rattle.sorted_map.specs.Sorted.{Sorted}
-use Rattle.sorted_map.specs.Places.{place_in, LessBefore, GreaterFrom}
+use Rattle.finite_map.specs.Sorted.{Sorted}
+use Rattle.finite_map.specs.Places.{place_in, LessBefore, GreaterFrom}
 
 -- how the first key compares with this one, as if it were greater where there is none
 abbrev pub first_order : {K V : Type 0} → (K → K → Ordering) → K → List (K × V) → Ordering

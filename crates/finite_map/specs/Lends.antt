@@ -1,7 +1,7 @@
 -- What a chunk ends as, where a `&mut` to one of its values is returned.
 use Rattle.std.specs.Prelude.{ℕ}
 use Rattle.std.specs.Borrow.{Lends, Fml, RattleType, MutBor}
-use Rattle.sorted_map.specs.Sorted.{Sorted}
+use Rattle.finite_map.specs.Sorted.{Sorted}
 use Rattle.finite_map.specs.Chunks.{with_value_at}
 use Rattle.finite_map.specs.contracts.chunk.Chunk.{the_row}
 

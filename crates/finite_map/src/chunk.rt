@@ -6,7 +6,7 @@ ghost use Rattle.std.specs.List.{insert as list_insert, remove as list_remove};
 ghost use Rattle.std.specs.List.Sorted.{IsSearchInRange};
 ghost use Rattle.std.specs.Borrow.{sem};
 ghost use Rattle.std.specs.FinMap.{is_sorted};
-ghost use Rattle.sorted_map.specs.Places.{TiesAt, Gap};
+ghost use Rattle.finite_map.specs.Places.{TiesAt, Gap};
 ghost use Rattle.finite_map.specs.Chunks.{first_order, with_value_at};
 
 use std::alloc::{AllocError, Global};
@@ -21,7 +21,7 @@ pub struct Chunk<K, V> {
 
 impl<K, V> Model for Chunk<K, V> {
     ghost use Rattle.std.specs.Prelude.{vec_capacity};
-    ghost use Rattle.sorted_map.specs.Sorted.{Sorted, sorted_code};
+    ghost use Rattle.finite_map.specs.Sorted.{Sorted, sorted_code};
 
     ghost Value = { Sorted K V };
 

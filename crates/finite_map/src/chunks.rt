@@ -47,7 +47,7 @@ impl<K: Ord + Copy + Drop, V> Model for ChunkedMap<K, V> {
     ghost use Rattle.std.specs.Prelude.{◌≡◌, List, length, true};
     ghost use Rattle.std.specs.Coded.{coded_list};
     ghost use Rattle.std.specs.FinMap.{is_sorted};
-    ghost use Rattle.sorted_map.specs.Sorted.{Sorted, sorted_code};
+    ghost use Rattle.finite_map.specs.Sorted.{Sorted, sorted_code};
     ghost use Rattle.finite_map.specs.Chunks.{flat, IsShaped};
 
     ghost Value = { List (Sorted K V) };

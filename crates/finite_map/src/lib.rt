@@ -18,6 +18,7 @@ use std::alloc::{AllocError, Global};
 
 mod chunk;
 pub mod chunks;
+pub mod sorted;
 pub mod vector;
 
 /// A map from keys to values, seen as the finite map that it holds. A method whose name ends with `_at` takes the

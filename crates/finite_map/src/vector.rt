@@ -2,11 +2,11 @@
 
 ghost use Rattle.std.specs.Prelude.{◌≡◌, drop};
 ghost use Rattle.std.specs.FinMap as map;
-ghost use Rattle.sorted_map.specs.Places.{place_in};
-ghost use Rattle.sorted_map.specs.Sorted.{map_of, HasRoom};
+ghost use Rattle.finite_map.specs.Places.{place_in};
+ghost use Rattle.finite_map.specs.Sorted.{map_of, HasRoom};
 
 use crate::FiniteMap;
-use sorted_map::{Place, SortedVec};
+use crate::sorted::{Place, SortedVec};
 use std::alloc::{AllocError, Global};
 
 impl<K: Ord + Copy + Drop, V: Drop> FiniteMap<K, V> for SortedVec<K, V> {

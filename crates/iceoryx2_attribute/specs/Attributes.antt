@@ -6,7 +6,7 @@ use Rattle.std.specs.Cmp.Lexicographic.{slice_cmp, pointwise}
 use Rattle.std.specs.declared.cmp.Ordering.{Ordering}
 use Rattle.iceoryx2_attribute.specs.declared.attribute.TheConstants.{MIN_KEY_LENGTH, MAX_KEY_LENGTH}
 use Rattle.iceoryx2_attribute.specs.declared.attribute.TheConstants.{MAX_VALUE_LENGTH, MAX_ATTRIBUTES}
-use Rattle.iceoryx2_text.specs.Texts.{IsText}
+use Rattle.iceoryx2_types.specs.Texts.{IsText}
 use Rattle.iceoryx2_attribute.specs.Ascending.{ascends_by, with_item}
 
 -- the bytes of both texts

@@ -6,7 +6,7 @@ use Rattle.iceoryx2_description.specs.declared.description.MessagingPattern.{Mes
 use Rattle.iceoryx2_description.specs.declared.description.MessagingPattern.TheVariants as existing
 use Rattle.iceoryx2_rounds.specs.Verdict.{verdict}
 use Rattle.iceoryx2_rounds.specs.Adjusting.{Accepts}
-use Rattle.iceoryx2_builder_common.proofs.Rows.{no_more}
+use Rattle.iceoryx2_rounds.proofs.Rows.{no_more}
 use Rattle.iceoryx2_event_builder.specs.Event as event
 use Rattle.iceoryx2_event_builder.specs.declared.event.demand.EventDemand.{EventDemand}
 use Rattle.iceoryx2_publish_subscribe_builder.specs.PublishSubscribe as publish_subscribe

@@ -5,7 +5,7 @@ use Rattle.std.proofs.lemmas.List.Elements.{All-contains_itself}
 use Rattle.iceoryx2_attribute.specs.Requirements.{Requirements}
 use Rattle.iceoryx2_types.proofs.Compatible.{reflexive}
 use Rattle.iceoryx2_rounds.specs.Adjusting.{OnlyRaises}
-use Rattle.iceoryx2_builder_common.specs.Zeros.{at_least_one}
+use Rattle.iceoryx2_rounds.specs.Zeros.{at_least_one}
 use Rattle.iceoryx2_event_builder.specs.Event.{event_meaning, event_adjusted}
 use Rattle.iceoryx2_event_builder.specs.declared.event.demand.EventDemand.{EventDemand}
 use Rattle.iceoryx2_publish_subscribe_builder.specs.PublishSubscribe as publish_subscribe

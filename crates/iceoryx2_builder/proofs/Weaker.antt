@@ -12,7 +12,7 @@ use Rattle.iceoryx2_rounds.specs.OwnAttributes.{attribute_clauses, requiring}
 use Rattle.iceoryx2_rounds.proofs.Verdicts.{verdict_append}
 use Rattle.iceoryx2_rounds.proofs.OwnAttributes.{nothing_lacks, something_lacks}
 use Rattle.iceoryx2_rounds.specs.Adjusting.{Accepts}
-use Rattle.iceoryx2_builder_common.proofs.Rows.{both}
+use Rattle.iceoryx2_rounds.proofs.Rows.{both}
 use Rattle.iceoryx2_builder.specs.Weaker.{AreSomeOf}
 
 lacks_nothing : {E : Type 0} (error : E) (r : Requirements) (ps : List Pair) (lacking : Option (List ℕ))

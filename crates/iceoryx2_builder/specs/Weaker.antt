@@ -1,7 +1,7 @@
 -- One requirement that asks no more than another of services of the same pattern.
 use Rattle.std.specs.Prelude.{All, Contains}
 use Rattle.iceoryx2_attribute.specs.Requirements.{Requirements}
-use Rattle.iceoryx2_builder_common.specs.Rows.{IsWeakerBy}
+use Rattle.iceoryx2_rounds.specs.Rows.{IsWeakerBy}
 use Rattle.iceoryx2_event_builder.specs.Event as event
 use Rattle.iceoryx2_event_builder.specs.declared.event.demand.EventDemand.{EventDemand}
 use Rattle.iceoryx2_publish_subscribe_builder.specs.PublishSubscribe as publish_subscribe

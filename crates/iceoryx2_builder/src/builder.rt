@@ -6,7 +6,7 @@ ghost use Rattle.iceoryx2_attribute.specs.Requirements.{Requirements};
 ghost use Rattle.iceoryx2_builder.specs.Setters.{AreSetters, event_place, publish_subscribe_place, request_response_place};
 ghost use Rattle.iceoryx2_builder.specs.Weaker.{AreSomeOf};
 ghost use Rattle.iceoryx2_builder.specs.Weaker.{IsWeakerEvent, IsWeakerPublishSubscribe, IsWeakerRequestResponse};
-ghost use Rattle.iceoryx2_builder_common.specs.Builders.{IsLawfulBuilder};
+ghost use Rattle.iceoryx2_rounds.specs.Builders.{IsLawfulBuilder};
 ghost use Rattle.iceoryx2_rounds.specs.Adjusting.{Accepts, OnlyRaises};
 ghost use Rattle.iceoryx2_rounds.specs.Creates.{IsCreateWord};
 ghost use Rattle.iceoryx2_rounds.specs.Opens.{IsOpenWord};
@@ -54,12 +54,12 @@ ghost use Rattle.iceoryx2_errors.specs.Reasons.{publish_subscribe_create_reason,
 ghost use Rattle.iceoryx2_errors.specs.Reasons.{request_response_create_reason, request_response_open_reason};
 
 use iceoryx2_access::storage::Service;
-use iceoryx2_builder_common::base::BuilderWithServiceType;
 use iceoryx2_description::config::Config;
 use iceoryx2_description::description::ServiceName;
 pub use iceoryx2_event_builder::event;
 pub use iceoryx2_publish_subscribe_builder::publish_subscribe;
 pub use iceoryx2_request_response_builder::request_response;
+use iceoryx2_rounds::base::BuilderWithServiceType;
 use iceoryx2_types::types::{self, ZeroCopySend};
 use std::alloc::AllocError;
 use std::marker::{Model, PhantomData};

@@ -9,6 +9,9 @@
 //! by `From`. `laws_of_retries()`: after which of 80 errors an open or create goes on. `laws_of_adjusting()`: what
 //! is asked asks no more than what a create makes of it, and adjusting twice is adjusting once. `lawful_calls()`:
 //! each call of the three builders is one of which the laws over whole calls speak (`IsLawfulCall`).
+//!
+//! `command`: what a session is given and what it answers, as values alone. `slots_are_64()`: a session has 64 slots.
 #![tactic(auto)]
 
 pub mod builder;
+pub mod command;

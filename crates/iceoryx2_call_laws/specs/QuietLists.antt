@@ -3,7 +3,7 @@ use Rattle.std.specs.Prelude.{false, List, Some, map}
 use Rattle.std.specs.FinMap as finite
 use Rattle.iceoryx2_description.specs.declared.description.ServiceHash.{ServiceHash}
 use Rattle.iceoryx2_description.specs.Description.{max_nodes_of}
-use Rattle.iceoryx2_byte_form.specs.Form as form
+use Rattle.iceoryx2_data.specs.Form as form
 use Rattle.iceoryx2_world.specs.declared.listing.ListedRow.TheVariants as listed
 use Rattle.iceoryx2_world.specs.declared.listing.Entry.{Entry}
 use Rattle.iceoryx2_call_laws.specs.Quiet.{QuietService, Quiet}

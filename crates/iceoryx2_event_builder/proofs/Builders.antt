@@ -15,9 +15,9 @@ use Rattle.iceoryx2_rounds.proofs.Ends.{Errs, attributes_err, both_err, rows_err
 use Rattle.iceoryx2_event_builder.specs.declared.event.demand.EventDemand.{EventDemand}
 use Rattle.iceoryx2_event_builder.specs.Event.{event_creating, event_opening, event_retried, setting_clauses, setting_rows}
 use Rattle.iceoryx2_event_builder.proofs.OwnSettings.{own_settings}
-use Rattle.iceoryx2_builder_common.proofs.Raised.{raised_above}
-use Rattle.iceoryx2_builder_common.specs.Builders.{IsLawfulBuilder}
-use Rattle.iceoryx2_builder_common.specs.Rows.{tested}
+use Rattle.iceoryx2_rounds.proofs.Raised.{raised_above}
+use Rattle.iceoryx2_rounds.specs.Builders.{IsLawfulBuilder}
+use Rattle.iceoryx2_rounds.specs.Rows.{tested}
 
 pub event_builder : (demand : EventDemand) → IsLawfulBuilder (event_creating demand) (event_opening demand)
 event_builder demand = record {

@@ -7,8 +7,8 @@ use Rattle.iceoryx2_rounds.specs.Verdict.{verdict, at_least, number_is, span_is,
 use Rattle.iceoryx2_rounds.specs.declared.caller.Caller.{Caller}
 use Rattle.iceoryx2_rounds.specs.Creates.{description_of}
 use Rattle.iceoryx2_rounds.proofs.MetRows.{not_less, same_number, same_choice}
-use Rattle.iceoryx2_builder_common.proofs.Rows.{accepted}
-use Rattle.iceoryx2_builder_common.proofs.Raised.{not_below}
+use Rattle.iceoryx2_rounds.proofs.Rows.{accepted}
+use Rattle.iceoryx2_rounds.proofs.Raised.{not_below}
 use Rattle.iceoryx2_event_builder.specs.declared.event.demand.EventDemand.{EventDemand}
 use Rattle.iceoryx2_attribute.specs.Attributes.{Pair}
 use Rattle.iceoryx2_attribute.specs.Requirements.{Requirements, AreMetBy}

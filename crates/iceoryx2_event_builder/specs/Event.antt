@@ -26,8 +26,8 @@ use Rattle.iceoryx2_errors.specs.declared.error.events.EventOpenOrCreateError.Th
 use Rattle.iceoryx2_rounds.specs.Retried.{Retried, retried_by}
 use Rattle.iceoryx2_rounds.specs.declared.open_or_create.OpenOrCreateRefusal.{OpenOrCreateRefusal}
 use Rattle.iceoryx2_rounds.specs.declared.open_or_create.OpenOrCreateRefusal.TheVariants as refusal
-use Rattle.iceoryx2_builder_common.specs.Zeros.{at_least_one}
-use Rattle.iceoryx2_builder_common.specs.Rows.{Row, AtLeast, SameNumber, SameSpan, row_clauses}
+use Rattle.iceoryx2_rounds.specs.Zeros.{at_least_one}
+use Rattle.iceoryx2_rounds.specs.Rows.{Row, AtLeast, SameNumber, SameSpan, row_clauses}
 use Rattle.iceoryx2_event_builder.specs.declared.event.demand.EventDemand.{EventDemand}
 use Rattle.iceoryx2_event_builder.specs.declared.event.demand.Marks.{Marks}
 

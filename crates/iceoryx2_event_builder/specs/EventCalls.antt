@@ -9,7 +9,7 @@ use Rattle.iceoryx2_errors.specs.declared.error.events.EventOpenError.{EventOpen
 use Rattle.iceoryx2_errors.specs.declared.error.events.EventCreateError.{EventCreateError}
 use Rattle.iceoryx2_rounds.specs.declared.caller.Caller.{Caller}
 use Rattle.iceoryx2_rounds.specs.BuilderCalls.{BuilderCall, Way}
-use Rattle.iceoryx2_builder_common.specs.Facts.{caller_of}
+use Rattle.iceoryx2_rounds.specs.Facts.{caller_of}
 use Rattle.iceoryx2_event_builder.specs.declared.event.demand.EventDemand.{EventDemand}
 use Rattle.iceoryx2_event_builder.specs.Event.{event_adjusted, event_meaning, event_retried}
 use Rattle.iceoryx2_event_builder.specs.Builder.{EventBuilderState, prefix_of_events}

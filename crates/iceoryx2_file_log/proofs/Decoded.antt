@@ -5,7 +5,7 @@ use Rattle.std.specs.Prelude.{◌≢◌, All}
 use Rattle.std.proofs.lemmas.List.{append-nil}
 use Rattle.std.proofs.lemmas.List.Elements.{All-nil, All-cons, All-head, All-tail, All-append}
 use Rattle.std.proofs.lemmas.Option.{none-some}
-use Rattle.iceoryx2_byte_form.proofs.PartForms.{IsBytes, some_is}
+use Rattle.iceoryx2_data.proofs.PartForms.{IsBytes, some_is}
 use Rattle.iceoryx2_log.specs.declared.entry.Deed.{Deed}
 use Rattle.iceoryx2_log.specs.declared.entry.Deed.TheVariants.{MakeTag, RemoveTag, Lock, MakeSegment, RemoveSegment}
 use Rattle.iceoryx2_log.specs.declared.entry.Deed.TheVariants.{RemoveDescription, Publish, OpenSegment, Release, Spend, Moved}

@@ -9,10 +9,10 @@ use Rattle.std.proofs.lemmas.List.{append-nil, get_or_past, get_or_append_left}
 use Rattle.std.proofs.lemmas.Option.{none-some}
 use Rattle.std.proofs.lemmas.Slice.Eq.{bytes_eq-Decides}
 use Rattle.sha1.specs.Sha1.{sha1, digest_bytes}
-use Rattle.iceoryx2_byte_form.specs.PartForm.{number}
-use Rattle.iceoryx2_byte_form.specs.PartReading.{◌>>=◌, number_at, bytes_at, literal_at}
-use Rattle.iceoryx2_byte_form.proofs.PartForms.{IsBytes, bind_some, guard_is, some_is, Reads-bytes, Reads-each_byte}
-use Rattle.iceoryx2_byte_form.proofs.PartForms.{Reads-number64, Reads-literal}
+use Rattle.iceoryx2_data.specs.PartForm.{number}
+use Rattle.iceoryx2_data.specs.PartReading.{◌>>=◌, number_at, bytes_at, literal_at}
+use Rattle.iceoryx2_data.proofs.PartForms.{IsBytes, bind_some, guard_is, some_is, Reads-bytes, Reads-each_byte}
+use Rattle.iceoryx2_data.proofs.PartForms.{Reads-number64, Reads-literal}
 use Rattle.iceoryx2_log.specs.Reading.{kind_at}
 use Rattle.iceoryx2_file_log.specs.declared.header.TheConstants.{HEADER_LENGTH, SUMMED_LENGTH, SUM_LENGTH, NAME_LENGTH}
 use Rattle.iceoryx2_file_log.specs.declared.header.TheConstants.{VERSION}

@@ -5,7 +5,7 @@ use Rattle.std.specs.Prelude.{◌≢◌}
 use Rattle.std.specs.List.{AllByRecursion as ByRecursion}
 use Rattle.std.proofs.lemmas.List.{append-nil, append_cancel_left, take_at, drop_at}
 use Rattle.std.proofs.lemmas.List.Elements.{recursion_from_All}
-use Rattle.iceoryx2_byte_form.proofs.PartForms.{some_is}
+use Rattle.iceoryx2_data.proofs.PartForms.{some_is}
 use Rattle.iceoryx2_log.specs.declared.entry.Entry.{Entry}
 use Rattle.iceoryx2_log.specs.declared.entry.Deed.TheVariants.{Moved}
 use Rattle.iceoryx2_log.specs.Form.{IsForm, Begins}

@@ -27,7 +27,7 @@ use Rattle.iceoryx2_file_log.specs.Bytes.{Reading, WritesAll, CutsAll, CutsOrSta
 use Rattle.iceoryx2_file_log.specs.Entries.{entries_in}
 use Rattle.iceoryx2_file_log.specs.OneFile.{Fits, Holding, IsFound, Left, contents_in, contents_of, unread_bytes, refused}
 use Rattle.iceoryx2_file_log.specs.OneFile.{SameContents, SparesOrIsSafe, KnowsLock, lock_of}
-use Rattle.iceoryx2_byte_form.proofs.PartForms.{some_is}
+use Rattle.iceoryx2_data.proofs.PartForms.{some_is}
 use Rattle.iceoryx2_file_log.proofs.ByteSteps.{drop_on, nothing, written_end, with_bytes}
 use Rattle.iceoryx2_file_log.proofs.Keeping.{IsQuiet, quiet_cut, before, same_front, keeps_alone, keeps_in_turn, more_keeps, cut_keeps}
 use Rattle.iceoryx2_file_log.proofs.Decoded.{Stays, bytes_append, bytes_behind, bytes_drop, bytes_take, none_in, entries_only}

@@ -3,7 +3,7 @@ use Rattle.std.proofs.Common.{◌≡◌, inl, inr, ℕ, ◌+◌, ◌≤◌, Bool
 use Rattle.std.proofs.Common.{take, drop, refl, sym, ap, subst, ◌∙◌, append_assoc, length-append, take-append-drop, arith}
 use Rattle.std.specs.Str.{bytes_eq}
 use Rattle.std.proofs.lemmas.List.{append-nil, length-drop, length-take-le, take_all, take_at, drop_at}
-use Rattle.iceoryx2_byte_form.proofs.PartForms.{some_is}
+use Rattle.iceoryx2_data.proofs.PartForms.{some_is}
 use Rattle.iceoryx2_log.specs.declared.entry.Entry.{Entry}
 use Rattle.iceoryx2_log.specs.Form.{IsForm, Begins}
 use Rattle.iceoryx2_log.proofs.Found.{read_again, one_form, one_entry, no_front}

@@ -1,7 +1,7 @@
 -- The byte form of what stands before a log's entries.
 use Rattle.std.specs.Prelude.{ℕ, ◌≡◌, ◌<◌, ◌^◌, List, [], ◌∷◌, ◌++◌, length, take, codes, All}
 use Rattle.sha1.specs.Sha1.{sha1}
-use Rattle.iceoryx2_byte_form.specs.PartForm.{number}
+use Rattle.iceoryx2_data.specs.PartForm.{number}
 use Rattle.iceoryx2_file_log.specs.declared.header.TheConstants.{HEADER_LENGTH, SUM_LENGTH, NAME_LENGTH, VERSION}
 use Rattle.iceoryx2_file_log.specs.declared.header.Header.{Header}
 

@@ -1,7 +1,7 @@
 -- Reading the byte form of a header from left to right.
 use Rattle.std.specs.Prelude.{ℕ, List, Option, Some, None, bytes_eq, ◌==◌, if◌then◌else◌}
 use Rattle.std.specs.Int.{w64}
-use Rattle.iceoryx2_byte_form.specs.PartReading.{◌>>=◌, number_at, bytes_at, literal_at}
+use Rattle.iceoryx2_data.specs.PartReading.{◌>>=◌, number_at, bytes_at, literal_at}
 use Rattle.iceoryx2_log.specs.Reading.{kind_at}
 use Rattle.iceoryx2_file_log.specs.declared.header.TheConstants.{SUMMED_LENGTH, NAME_LENGTH, VERSION}
 use Rattle.iceoryx2_file_log.specs.declared.header.Header.{Header}

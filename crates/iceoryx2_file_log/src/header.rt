@@ -3,8 +3,8 @@
 
 ghost use Rattle.std.specs.Prelude.{◌≡◌, ◌≢◌, ◌<◌, ◌^◌, ◌++◌, ◌↔◌, ℕ, Ok, Err, IfOk, OnOk, IfSome, All, length};
 ghost use Rattle.std.specs.Int.{w64};
-ghost use Rattle.iceoryx2_byte_form.specs.PartForm.{number};
-ghost use Rattle.iceoryx2_byte_form.specs.PartReading.{number_at, bytes_at, literal_at};
+ghost use Rattle.iceoryx2_data.specs.PartForm.{number};
+ghost use Rattle.iceoryx2_data.specs.PartReading.{number_at, bytes_at, literal_at};
 ghost use Rattle.iceoryx2_log.specs.Reading.{IsPart, kind_at};
 ghost use Rattle.iceoryx2_file_log.specs.declared.header.HeaderError.TheVariants as errors;
 ghost use Rattle.iceoryx2_file_log.specs.declared.header.Header as declared;
@@ -159,7 +159,7 @@ fn bytes_of(len: usize, bytes: &[u8]) -> Option<(&[u8], &[u8])>
 }
 
 /// Just these bytes.
-#[tactic(auto, unfolding(iceoryx2_byte_form::specs::PartReading::literal_at))]
+#[tactic(auto, unfolding(iceoryx2_data::specs::PartReading::literal_at))]
 fn literal_of<'a>(literal: &[u8], bytes: &'a [u8]) -> Option<&'a [u8]>
     ensures { IsPart (λ x. (tt, x.now)) result (literal_at literal.now bytes.now) }
 {

@@ -7,8 +7,8 @@ use Rattle.std.proofs.lemmas.List.{append-nil}
 use Rattle.std.proofs.lemmas.Map.Keys.{IsDistinct-head, IsDistinct-tail, IsDistinct-cons}
 use Rattle.iceoryx2_description.specs.declared.description.ServiceHash.{ServiceHash}
 use Rattle.iceoryx2_description.specs.Description.{Description, max_nodes_of}
-use Rattle.iceoryx2_byte_form.specs.Form as form
-use Rattle.iceoryx2_byte_form.proofs.Fields.{one_description}
+use Rattle.iceoryx2_data.specs.Form as form
+use Rattle.iceoryx2_data.proofs.Fields.{one_description}
 use Rattle.iceoryx2_access.specs.Letter.{Letter}
 use Rattle.iceoryx2_access.specs.Letter as letter
 use Rattle.iceoryx2_access.specs.Registered.{Registered}

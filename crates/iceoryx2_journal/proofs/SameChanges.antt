@@ -4,7 +4,7 @@ use Rattle.std.specs.Prelude.{◌&&◌, ◌==◌, nat_lt, if◌then◌else◌}
 use Rattle.std.specs.FinMap as map
 use Rattle.iceoryx2_description.specs.declared.description.ServiceHash.{ServiceHash}
 use Rattle.iceoryx2_description.specs.Description.{Description}
-use Rattle.iceoryx2_byte_form.proofs.Fields.{one_description}
+use Rattle.iceoryx2_data.proofs.Fields.{one_description}
 use Rattle.iceoryx2_access.specs.declared.storage.Tag.TheVariants.{Made}
 use Rattle.iceoryx2_access.specs.declared.storage.TagError.TheVariants as Tagging
 use Rattle.iceoryx2_access.specs.declared.storage.LockError.TheVariants as Locking

@@ -6,7 +6,7 @@ ghost use Rattle.iceoryx2_journal.specs.Follow.{MayFetch, Follows};
 mod judging;
 
 use iceoryx2_access::storage::FetchError;
-use iceoryx2_byte_form::bytes::{self, DecodeError};
+use iceoryx2_data::bytes::{self, DecodeError};
 use iceoryx2_description::description::ServiceHash;
 use iceoryx2_log::entry::{Deed, Entry, FormBytes};
 use iceoryx2_table::recorder::Unrecorded;

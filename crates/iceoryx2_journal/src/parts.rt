@@ -10,7 +10,7 @@ use iceoryx2_access::storage::{
     LockError, MakeSegmentError, OpenSegmentError, PublishError, Release, ReleaseError,
     RemoveError, Tag, TagError,
 };
-use iceoryx2_byte_form::bytes;
+use iceoryx2_data::bytes;
 use iceoryx2_description::description::{ServiceHash, StaticConfig};
 use iceoryx2_log::entry::{Deed, Entry, FormBytes};
 use iceoryx2_log::log::Log;

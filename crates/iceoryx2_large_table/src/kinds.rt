@@ -3,11 +3,11 @@
 use crate::keys::{Seat, TagKey};
 use finite_map::FiniteMap;
 use finite_map::chunks::ChunkedMap;
+use finite_map::sorted::SortedVec;
 use iceoryx2_description::description::ServiceHash;
 use iceoryx2_table::rows::StoredRow;
 use iceoryx2_table::segments::StoredSegment;
 use iceoryx2_world::world::{Phase, Ticket};
-use sorted_map::SortedVec;
 
 /// The kinds of a table's five maps.
 pub trait Kinds {

@@ -11,7 +11,7 @@ use crate::listing::merge_entries;
 use crate::steps::{Position, Steps};
 use finite_map::FiniteMap;
 use iceoryx2_access::storage::Release;
-use iceoryx2_byte_form::bytes::encode;
+use iceoryx2_data::bytes::encode;
 use iceoryx2_description::description::{ServiceHash, StaticConfig};
 use iceoryx2_table::recorder::Recorder;
 use iceoryx2_table::rows::StoredRow;

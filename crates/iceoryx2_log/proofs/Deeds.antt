@@ -4,9 +4,9 @@ use Rattle.std.specs.Prelude.{All}
 use Rattle.std.specs.Int.{w64}
 use Rattle.std.proofs.lemmas.Bool.{eqb-true}
 use Rattle.std.proofs.lemmas.List.{get_or_default}
-use Rattle.iceoryx2_byte_form.specs.PartForm.{number}
-use Rattle.iceoryx2_byte_form.specs.PartReading.{◌>>=◌, number_at}
-use Rattle.iceoryx2_byte_form.proofs.PartForms.{IsBytes, bind_some, some_is, Reads-number64}
+use Rattle.iceoryx2_data.specs.PartForm.{number}
+use Rattle.iceoryx2_data.specs.PartReading.{◌>>=◌, number_at}
+use Rattle.iceoryx2_data.proofs.PartForms.{IsBytes, bind_some, some_is, Reads-number64}
 use Rattle.iceoryx2_log.specs.declared.entry.Deed.{Deed}
 use Rattle.iceoryx2_log.specs.declared.entry.Deed.TheVariants.{MakeTag, RemoveTag, Lock, MakeSegment, RemoveSegment, RemoveDescription, Publish, OpenSegment, Release, Spend, Moved}
 use Rattle.iceoryx2_log.specs.Form.{IsDeed, kind, details}

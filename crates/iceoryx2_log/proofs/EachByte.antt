@@ -3,7 +3,7 @@ use Rattle.std.proofs.Common.{ℕ, ◌<◌, List, length, sym, subst, arith}
 use Rattle.std.specs.Prelude.{All}
 use Rattle.std.proofs.lemmas.List.Elements.{All-from_recursion, recursion_from_All}
 use Rattle.sha1.specs.Sha1.{sha1, digest_bytes}
-use Rattle.iceoryx2_byte_form.proofs.PartBytes.{AreBytes, none, more, both, number_bytes}
+use Rattle.iceoryx2_data.proofs.PartBytes.{AreBytes, none, more, both, number_bytes}
 use Rattle.iceoryx2_log.specs.declared.entry.Deed.{Deed}
 use Rattle.iceoryx2_log.specs.declared.entry.Deed.TheVariants.{MakeTag, RemoveTag, Lock, MakeSegment, RemoveSegment, RemoveDescription, Publish, OpenSegment, Release, Spend, Moved}
 use Rattle.iceoryx2_log.specs.declared.entry.Entry.{Entry}

@@ -2,9 +2,9 @@
 use Rattle.std.proofs.Common.{◌≡◌, ℕ, ◌+◌, ◌^◌, ◌<◌, ◌≤◌, List, [], ◌∷◌, ◌++◌, length, Option, Some, refl, ap, subst, ◌∙◌, length-append, arith}
 use Rattle.std.specs.Prelude.{All}
 use Rattle.iceoryx2_description.specs.declared.description.TheConstants.{HASH_LENGTH}
-use Rattle.iceoryx2_byte_form.specs.PartForm.{number}
-use Rattle.iceoryx2_byte_form.specs.PartReading.{◌>>=◌}
-use Rattle.iceoryx2_byte_form.proofs.PartForms.{IsBytes, IsBytes-rest, bind_some, some_is, Takes, Reads, Reads-then, Reads-number64, Reads-each_byte}
+use Rattle.iceoryx2_data.specs.PartForm.{number}
+use Rattle.iceoryx2_data.specs.PartReading.{◌>>=◌}
+use Rattle.iceoryx2_data.proofs.PartForms.{IsBytes, IsBytes-rest, bind_some, some_is, Takes, Reads, Reads-then, Reads-number64, Reads-each_byte}
 use Rattle.iceoryx2_log.specs.declared.entry.Deed.{Deed}
 use Rattle.iceoryx2_log.specs.declared.entry.Entry.{Entry}
 use Rattle.iceoryx2_log.specs.declared.form.TheConstants.{MIN_BODY_LENGTH, MAX_BODY_LENGTH}

@@ -4,7 +4,7 @@ use Rattle.std.specs.Prelude.{Result, Ok, Err, IsErrOf, IsSome, ◌↔◌}
 use Rattle.std.proofs.lemmas.Bool.{ltb-true, lt-ltb, le-ltb}
 use Rattle.std.proofs.lemmas.List.{append-nil}
 use Rattle.std.proofs.lemmas.Option.{none-some}
-use Rattle.iceoryx2_byte_form.proofs.PartForms.{IsBytes, some_is}
+use Rattle.iceoryx2_data.proofs.PartForms.{IsBytes, some_is}
 use Rattle.iceoryx2_log.specs.declared.entry.Entry.{Entry}
 use Rattle.iceoryx2_log.specs.declared.form.TheConstants.{HEADER_LENGTH, SUM_LENGTH}
 use Rattle.iceoryx2_log.specs.declared.form.reading.EntryError.{EntryError}

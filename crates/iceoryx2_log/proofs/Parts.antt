@@ -6,8 +6,8 @@ use Rattle.std.proofs.lemmas.Bool.{cases_lt, eqb-true, eq-eqb, ltb-false, le-ltb
 use Rattle.std.proofs.lemmas.List.{get_or_past, get_or_append_left}
 use Rattle.std.proofs.lemmas.Slice.Eq.{bytes_eq-Decides}
 use Rattle.sha1.specs.Sha1.{sha1, digest_bytes}
-use Rattle.iceoryx2_byte_form.specs.PartReading.{◌>>=◌, number_at, bytes_at}
-use Rattle.iceoryx2_byte_form.proofs.PartForms.{IsBytes, bind_some, guard_not, guard_is, some_is, Takes, Takes-then, Reads-bytes, Reads-number32}
+use Rattle.iceoryx2_data.specs.PartReading.{◌>>=◌, number_at, bytes_at}
+use Rattle.iceoryx2_data.proofs.PartForms.{IsBytes, bind_some, guard_not, guard_is, some_is, Takes, Takes-then, Reads-bytes, Reads-number32}
 use Rattle.iceoryx2_log.specs.declared.form.TheConstants.{SUM_LENGTH, MIN_BODY_LENGTH, MAX_BODY_LENGTH}
 use Rattle.iceoryx2_log.specs.Form.{header, sum_of, sealed, IsLength}
 use Rattle.iceoryx2_log.specs.Reading.{header_at, summed_at, sealed_at}

@@ -2,7 +2,7 @@
 use Rattle.std.specs.Prelude.{ℕ, ◌≡◌, ◌+◌, ◌^◌, ◌<◌, ◌≤◌, ◌⊎◌, List, [], ◌∷◌, ◌++◌, length, take, All}
 use Rattle.std.specs.Int.{w32, to_be_bytes, bit_not}
 use Rattle.sha1.specs.Sha1.{sha1}
-use Rattle.iceoryx2_byte_form.specs.PartForm.{number}
+use Rattle.iceoryx2_data.specs.PartForm.{number}
 use Rattle.iceoryx2_description.specs.Description.{IsHash}
 use Rattle.iceoryx2_log.specs.declared.entry.Deed.{Deed}
 use Rattle.iceoryx2_log.specs.declared.entry.Deed.TheVariants.{MakeTag, RemoveTag, Lock, MakeSegment, RemoveSegment}

@@ -2,7 +2,7 @@
 use Rattle.std.specs.Prelude.{◌≡◌, ℕ, ◌+◌, Bool, true, false, List, [], ◌∷◌, length, bytes_eq, nat_lt}
 use Rattle.std.specs.Prelude.{Option, Some, None, Result, Ok, Err, IsSome, ◌==◌, if◌then◌else◌}
 use Rattle.std.specs.Int.{w32, w64, bit_not}
-use Rattle.iceoryx2_byte_form.specs.PartReading.{◌>>=◌, Part, then_at, number_at, bytes_at}
+use Rattle.iceoryx2_data.specs.PartReading.{◌>>=◌, Part, then_at, number_at, bytes_at}
 use Rattle.iceoryx2_description.specs.declared.description.TheConstants.{HASH_LENGTH}
 use Rattle.iceoryx2_log.specs.declared.entry.Deed.{Deed}
 use Rattle.iceoryx2_log.specs.declared.entry.Deed.TheVariants.{MakeTag, RemoveTag, Lock, MakeSegment, RemoveSegment}

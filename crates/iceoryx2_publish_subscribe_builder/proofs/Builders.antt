@@ -9,7 +9,7 @@ use Rattle.iceoryx2_description.specs.declared.description.MessagingPattern.TheV
 use Rattle.iceoryx2_errors.specs.declared.error.publish_subscribe.PublishSubscribeCreateError.TheVariants as creating
 use Rattle.iceoryx2_rounds.specs.Verdict.{at_least, flag_is, verdict}
 use Rattle.iceoryx2_rounds.proofs.MetRows.{not_less, same_flag}
-use Rattle.iceoryx2_builder_common.proofs.Rows.{accepted}
+use Rattle.iceoryx2_rounds.proofs.Rows.{accepted}
 use Rattle.iceoryx2_rounds.specs.declared.caller.Caller.{Caller}
 use Rattle.iceoryx2_rounds.specs.Creates.{description_of}
 use Rattle.iceoryx2_rounds.specs.OwnSettings.{AcceptsOwn}
@@ -21,11 +21,11 @@ use Rattle.iceoryx2_rounds.proofs.Ends.{Errs, attributes_err, both_err, rows_err
 use Rattle.iceoryx2_errors.specs.declared.error.publish_subscribe.PublishSubscribeOpenError.{PublishSubscribeOpenError}
 use Rattle.iceoryx2_errors.specs.declared.error.publish_subscribe.PublishSubscribeOpenError.TheVariants as opening
 use Rattle.iceoryx2_errors.specs.declared.error.publish_subscribe.PublishSubscribeCreateError.{PublishSubscribeCreateError}
-use Rattle.iceoryx2_builder_common.specs.Builders.{IsLawfulBuilder}
-use Rattle.iceoryx2_builder_common.specs.Rows.{tested}
+use Rattle.iceoryx2_rounds.specs.Builders.{IsLawfulBuilder}
+use Rattle.iceoryx2_rounds.specs.Rows.{tested}
 use Rattle.iceoryx2_publish_subscribe_builder.specs.PublishSubscribe.{publish_subscribe_retried, setting_clauses, setting_rows}
-use Rattle.iceoryx2_builder_common.proofs.Misfits.{fits_itself}
-use Rattle.iceoryx2_builder_common.proofs.Raised.{not_below, raised_above}
+use Rattle.iceoryx2_rounds.proofs.Misfits.{fits_itself}
+use Rattle.iceoryx2_rounds.proofs.Raised.{not_below, raised_above}
 use Rattle.iceoryx2_publish_subscribe_builder.specs.declared.publish_subscribe.demand.PublishSubscribeDemand.{PublishSubscribeDemand}
 use Rattle.iceoryx2_publish_subscribe_builder.specs.PublishSubscribe.{publish_subscribe_meaning, publish_subscribe_adjusted, publish_subscribe_creating, publish_subscribe_opening}
 

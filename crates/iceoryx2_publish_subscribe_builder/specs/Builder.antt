@@ -2,8 +2,8 @@
 use Rattle.std.specs.Prelude.{ℕ, List, Some, false, true, codes}
 use Rattle.iceoryx2_types.specs.Types.{Detail, Message, fixed_size}
 use Rattle.iceoryx2_description.specs.declared.config.PublishSubscribe.{PublishSubscribe as Settings}
-use Rattle.iceoryx2_builder_common.specs.Requested.{no_types, requested_message}
-use Rattle.iceoryx2_builder_common.specs.declared.requested.RequestedTypes.{RequestedTypes}
+use Rattle.iceoryx2_rounds.specs.Requested.{no_types, requested_message}
+use Rattle.iceoryx2_rounds.specs.declared.requested.RequestedTypes.{RequestedTypes}
 use Rattle.iceoryx2_publish_subscribe_builder.specs.declared.publish_subscribe.TheConstants.{PREFIX}
 use Rattle.iceoryx2_publish_subscribe_builder.specs.declared.publish_subscribe.demand.Marks.{Marks}
 use Rattle.iceoryx2_publish_subscribe_builder.specs.declared.publish_subscribe.demand.PublishSubscribeDemand.{PublishSubscribeDemand}

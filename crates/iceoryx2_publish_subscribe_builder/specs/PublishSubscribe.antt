@@ -25,8 +25,8 @@ use Rattle.iceoryx2_errors.specs.declared.error.publish_subscribe.PublishSubscri
 use Rattle.iceoryx2_rounds.specs.Retried.{Retried, retried_by}
 use Rattle.iceoryx2_rounds.specs.declared.open_or_create.OpenOrCreateRefusal.{OpenOrCreateRefusal}
 use Rattle.iceoryx2_rounds.specs.declared.open_or_create.OpenOrCreateRefusal.TheVariants as refusal
-use Rattle.iceoryx2_builder_common.specs.Zeros.{at_least_one}
-use Rattle.iceoryx2_builder_common.specs.Rows.{Row, AtLeast, SameFlag, row_clauses}
+use Rattle.iceoryx2_rounds.specs.Zeros.{at_least_one}
+use Rattle.iceoryx2_rounds.specs.Rows.{Row, AtLeast, SameFlag, row_clauses}
 use Rattle.iceoryx2_publish_subscribe_builder.specs.declared.publish_subscribe.demand.Marks.{Marks}
 use Rattle.iceoryx2_publish_subscribe_builder.specs.declared.publish_subscribe.demand.PublishSubscribeDemand.{PublishSubscribeDemand}
 use Rattle.iceoryx2_publish_subscribe_builder.specs.declared.publish_subscribe.demand.PreparedDemand.{PreparedDemand}

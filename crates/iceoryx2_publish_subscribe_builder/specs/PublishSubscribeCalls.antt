@@ -9,7 +9,7 @@ use Rattle.iceoryx2_errors.specs.declared.error.publish_subscribe.PublishSubscri
 use Rattle.iceoryx2_errors.specs.declared.error.publish_subscribe.PublishSubscribeCreateError.{PublishSubscribeCreateError}
 use Rattle.iceoryx2_rounds.specs.declared.caller.Caller.{Caller}
 use Rattle.iceoryx2_rounds.specs.BuilderCalls.{BuilderCall, Way}
-use Rattle.iceoryx2_builder_common.specs.Facts.{caller_of}
+use Rattle.iceoryx2_rounds.specs.Facts.{caller_of}
 use Rattle.iceoryx2_publish_subscribe_builder.specs.declared.publish_subscribe.demand.PreparedDemand.{PreparedDemand}
 use Rattle.iceoryx2_publish_subscribe_builder.specs.PublishSubscribe.{prepared_adjusted, prepared_meaning}
 use Rattle.iceoryx2_publish_subscribe_builder.specs.PublishSubscribe.{publish_subscribe_retried}

@@ -10,7 +10,7 @@ ghost use Rattle.iceoryx2_rounds.specs.Prepared.{IsCreateCall, IsOpenCall};
 ghost use Rattle.iceoryx2_rounds.specs.BuilderCalls.{ToOpenOrCreate};
 ghost use Rattle.iceoryx2_rounds.specs.CallWords.{IsOpenOrCreateCall};
 ghost use Rattle.iceoryx2_rounds.specs.EndsAtOnce.{EndsAtOnce};
-ghost use Rattle.iceoryx2_builder_common.specs.Builders.{IsLawfulBuilder};
+ghost use Rattle.iceoryx2_rounds.specs.Builders.{IsLawfulBuilder};
 ghost use Rattle.iceoryx2_publish_subscribe_builder.specs.PublishSubscribe.{publish_subscribe_creating};
 ghost use Rattle.iceoryx2_publish_subscribe_builder.specs.PublishSubscribe.{publish_subscribe_opening};
 ghost use Rattle.iceoryx2_publish_subscribe_builder.specs.PublishSubscribe.{publish_subscribe_refusal};
@@ -28,20 +28,20 @@ use crate::publish_subscribe::demand::{
 pub use crate::publish_subscribe::setting::PublishSubscribeSetter;
 use iceoryx2_access::storage::Service;
 use iceoryx2_attribute::attribute::{AttributeSpecifier, AttributeVerifier};
-use iceoryx2_builder_common::answer::into_factory;
-use iceoryx2_builder_common::ask_for;
-use iceoryx2_builder_common::base::BuilderWithServiceType;
-use iceoryx2_builder_common::requested::RequestedTypes;
 use iceoryx2_description::config;
 use iceoryx2_description::time::Time;
 pub use iceoryx2_errors::error::{
     PublishSubscribeCreateError, PublishSubscribeOpenError, PublishSubscribeOpenOrCreateError,
 };
+use iceoryx2_rounds::answer::into_factory;
+use iceoryx2_rounds::ask_for;
+use iceoryx2_rounds::base::BuilderWithServiceType;
 use iceoryx2_rounds::caller::Caller;
 use iceoryx2_rounds::create::create_once;
 use iceoryx2_rounds::open::open;
 use iceoryx2_rounds::open_or_create::open_or_create;
 use iceoryx2_rounds::port_factory::publish_subscribe::PortFactory;
+use iceoryx2_rounds::requested::RequestedTypes;
 use iceoryx2_types::types::publish_subscribe::Header;
 use iceoryx2_types::types::{
     Alignment, CustomHeaderMarker, CustomPayloadMarker, Slice, TypeDetail, ZeroCopySend,

@@ -8,7 +8,7 @@ use Rattle.iceoryx2_description.specs.declared.description.MessagingPattern.{Mes
 use Rattle.iceoryx2_description.specs.declared.description.MessagingPattern.TheVariants as existing
 use Rattle.iceoryx2_rounds.specs.Verdict.{at_least, flag_is, verdict}
 use Rattle.iceoryx2_rounds.proofs.MetRows.{same_flag}
-use Rattle.iceoryx2_builder_common.proofs.Rows.{accepted}
+use Rattle.iceoryx2_rounds.proofs.Rows.{accepted}
 use Rattle.iceoryx2_rounds.specs.declared.caller.Caller.{Caller}
 use Rattle.iceoryx2_rounds.specs.Creates.{description_of}
 use Rattle.iceoryx2_rounds.specs.OwnSettings.{AcceptsOwn}
@@ -19,11 +19,11 @@ use Rattle.iceoryx2_rounds.proofs.RetriedAttributes.{met_with_attributes}
 use Rattle.iceoryx2_rounds.proofs.Ends.{Errs, attributes_err, both_err, rows_err, unmet_ends}
 use Rattle.iceoryx2_errors.specs.declared.error.request_response.RequestResponseOpenError.{RequestResponseOpenError}
 use Rattle.iceoryx2_errors.specs.declared.error.request_response.RequestResponseOpenError.TheVariants as opening
-use Rattle.iceoryx2_builder_common.specs.Builders.{IsLawfulBuilder}
-use Rattle.iceoryx2_builder_common.specs.Rows.{tested}
+use Rattle.iceoryx2_rounds.specs.Builders.{IsLawfulBuilder}
+use Rattle.iceoryx2_rounds.specs.Rows.{tested}
 use Rattle.iceoryx2_request_response_builder.specs.RequestResponse.{request_response_retried, setting_clauses, setting_rows}
-use Rattle.iceoryx2_builder_common.proofs.Misfits.{fits_itself}
-use Rattle.iceoryx2_builder_common.proofs.Raised.{not_below, raised_above}
+use Rattle.iceoryx2_rounds.proofs.Misfits.{fits_itself}
+use Rattle.iceoryx2_rounds.proofs.Raised.{not_below, raised_above}
 use Rattle.iceoryx2_request_response_builder.specs.declared.request_response.demand.RequestResponseDemand.{RequestResponseDemand}
 use Rattle.iceoryx2_request_response_builder.specs.RequestResponse.{request_response_meaning, request_response_adjusted, request_response_creating, request_response_opening}
 

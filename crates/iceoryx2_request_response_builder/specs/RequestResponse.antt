@@ -25,8 +25,8 @@ use Rattle.iceoryx2_errors.specs.declared.error.request_response.RequestResponse
 use Rattle.iceoryx2_rounds.specs.Retried.{Retried, retried_by}
 use Rattle.iceoryx2_rounds.specs.declared.open_or_create.OpenOrCreateRefusal.{OpenOrCreateRefusal}
 use Rattle.iceoryx2_rounds.specs.declared.open_or_create.OpenOrCreateRefusal.TheVariants as refusal
-use Rattle.iceoryx2_builder_common.specs.Zeros.{at_least_one}
-use Rattle.iceoryx2_builder_common.specs.Rows.{Row, AtLeast, SameFlag, row_clauses}
+use Rattle.iceoryx2_rounds.specs.Zeros.{at_least_one}
+use Rattle.iceoryx2_rounds.specs.Rows.{Row, AtLeast, SameFlag, row_clauses}
 use Rattle.iceoryx2_request_response_builder.specs.declared.request_response.demand.PreparedDemand.{PreparedDemand}
 use Rattle.iceoryx2_request_response_builder.specs.declared.request_response.demand.Marks.{Marks}
 use Rattle.iceoryx2_request_response_builder.specs.declared.request_response.demand.RequestResponseDemand.{RequestResponseDemand}

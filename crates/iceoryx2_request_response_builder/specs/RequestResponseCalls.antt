@@ -8,7 +8,7 @@ use Rattle.iceoryx2_errors.specs.declared.error.request_response.RequestResponse
 use Rattle.iceoryx2_errors.specs.declared.error.request_response.RequestResponseCreateError.{RequestResponseCreateError}
 use Rattle.iceoryx2_rounds.specs.declared.caller.Caller.{Caller}
 use Rattle.iceoryx2_rounds.specs.BuilderCalls.{BuilderCall, Way}
-use Rattle.iceoryx2_builder_common.specs.Facts.{caller_of}
+use Rattle.iceoryx2_rounds.specs.Facts.{caller_of}
 use Rattle.iceoryx2_request_response_builder.specs.declared.request_response.demand.PreparedDemand.{PreparedDemand}
 use Rattle.iceoryx2_request_response_builder.specs.RequestResponse.{prepared_adjusted, prepared_meaning}
 use Rattle.iceoryx2_request_response_builder.specs.RequestResponse.{request_response_retried}

@@ -10,7 +10,7 @@ ghost use Rattle.iceoryx2_rounds.specs.Prepared.{IsCreateCall, IsOpenCall};
 ghost use Rattle.iceoryx2_rounds.specs.BuilderCalls.{ToOpenOrCreate};
 ghost use Rattle.iceoryx2_rounds.specs.CallWords.{IsOpenOrCreateCall};
 ghost use Rattle.iceoryx2_rounds.specs.EndsAtOnce.{EndsAtOnce};
-ghost use Rattle.iceoryx2_builder_common.specs.Builders.{IsLawfulBuilder};
+ghost use Rattle.iceoryx2_rounds.specs.Builders.{IsLawfulBuilder};
 ghost use Rattle.iceoryx2_request_response_builder.specs.RequestResponse.{request_response_creating};
 ghost use Rattle.iceoryx2_request_response_builder.specs.RequestResponse.{request_response_opening};
 ghost use Rattle.iceoryx2_request_response_builder.specs.RequestResponse.{request_response_refusal};
@@ -31,14 +31,14 @@ pub use crate::request_response::setting::RequestResponseSetter;
 use crate::request_response::setting::RequestResponseSetter as Set;
 use iceoryx2_access::storage::Service;
 use iceoryx2_attribute::attribute::{AttributeSpecifier, AttributeVerifier};
-use iceoryx2_builder_common::answer::into_factory;
-use iceoryx2_builder_common::ask_for;
-use iceoryx2_builder_common::base::BuilderWithServiceType;
 use iceoryx2_description::config;
 use iceoryx2_description::time::Time;
 pub use iceoryx2_errors::error::{
     RequestResponseCreateError, RequestResponseOpenError, RequestResponseOpenOrCreateError,
 };
+use iceoryx2_rounds::answer::into_factory;
+use iceoryx2_rounds::ask_for;
+use iceoryx2_rounds::base::BuilderWithServiceType;
 use iceoryx2_rounds::caller::Caller;
 use iceoryx2_rounds::create::create_once;
 use iceoryx2_rounds::open::open;

@@ -17,3 +17,7 @@ pub mod Adjusting
 pub mod Left
 pub mod Ends
 pub mod RetriedAttributes
+pub mod Raised
+pub mod Rows
+pub mod JoinedGrants
+pub mod Misfits

@@ -26,3 +26,8 @@ pub mod EndsAtOnce
 pub mod Adjusting
 pub mod Grants
 pub mod LawfulCalls
+pub mod Facts
+pub mod Zeros
+pub mod Requested
+pub mod Rows
+pub mod Builders

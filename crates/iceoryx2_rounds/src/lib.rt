@@ -14,8 +14,15 @@
 //! thing that it made, once, in the order segment, lock, tag, and has left only that for which a removal was refused. A
 //! granted one carries its node and a description that it published, or that its requirement accepts
 //! (`granted_open_or_create_meets_or_holds`). `IsLawfulCall` is what laws over whole calls ask of a call.
+//!
+//! What the builders have in common stands here too: a pattern's settings are a table of rows, tested in their order
+//! (`Row`, `row_clauses`); zeros become one (`at_least_one`); the types that a call asks for are prepared before its first
+//! access (`requested_message`); and what holds of each builder is one record (`IsLawfulBuilder`). `clone` of a base is
+//! equal to it, or memory ran out.
 #![tactic(auto)]
 
+pub mod answer;
+pub mod base;
 pub mod caller;
 pub mod create;
 mod give_back;
@@ -25,7 +32,11 @@ pub mod open;
 pub mod open_or_create;
 pub mod pattern;
 pub mod port_factory;
+pub mod refusals;
+pub mod requested;
 pub mod retries;
+pub mod settings;
 pub mod verdict;
+pub mod zeros;
 
 pub use iceoryx2_errors::error;

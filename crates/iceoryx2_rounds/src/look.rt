@@ -1,7 +1,7 @@
 //! How a call sees whether there is a service.
 
 ghost use Rattle.std.specs.Prelude.{◌≡◌, ℕ, List, Ok};
-ghost use Rattle.iceoryx2_byte_form.specs.Form.{IsForm};
+ghost use Rattle.iceoryx2_data.specs.Form.{IsForm};
 ghost use Rattle.iceoryx2_access.specs.Letter.{fetch_answer};
 ghost use Rattle.iceoryx2_access.specs.Run.{Joins};
 ghost use Rattle.iceoryx2_rounds.specs.Looks.{IsLookWord, LeadsTo, found_unless, presence_of};
@@ -10,7 +10,7 @@ ghost use Rattle.iceoryx2_rounds.specs.Refusals as refusals;
 use crate::caller::Caller;
 use crate::pattern::{CreateRefusal, OpenRefusal, Pattern};
 use iceoryx2_access::storage::{Existence, FetchError, Storage};
-use iceoryx2_byte_form::bytes::{DecodeError, decode};
+use iceoryx2_data::bytes::{DecodeError, decode};
 use iceoryx2_description::description::{ServiceHash, StaticConfig};
 use std::alloc::Global;
 

@@ -9,7 +9,7 @@ pub use iceoryx2_builder::builder::{
     Builder, Node, lawful_calls, laws, laws_of_adjusting, laws_of_calls, laws_of_looks,
     laws_of_retries,
 };
-pub use iceoryx2_builder_common::base::BuilderWithServiceType;
-pub use iceoryx2_builder_common::requested::RequestedTypes;
 pub use iceoryx2_errors::error::{ServiceState, equality_of_errors, texts_of_errors_differ};
+pub use iceoryx2_rounds::base::BuilderWithServiceType;
+pub use iceoryx2_rounds::requested::RequestedTypes;
 pub use iceoryx2_types::types::{CustomHeaderMarker, CustomKeyMarker, CustomPayloadMarker};

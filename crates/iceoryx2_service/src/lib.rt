@@ -19,8 +19,8 @@ pub mod laws;
 mod promise;
 pub mod session;
 
+pub use iceoryx2_builder::command;
 pub use iceoryx2_call_laws::{fault_laws, quiet_laws};
-pub use iceoryx2_commands::command;
 pub use iceoryx2_data::{attribute, bytes, description};
 pub use iceoryx2_rounds::port_factory;
 pub use iceoryx2_storage::{script, shared, storage, table, traced};

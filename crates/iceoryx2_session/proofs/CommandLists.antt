@@ -7,8 +7,8 @@ use Rattle.iceoryx2_world.specs.Across.{Agrees}
 use Rattle.iceoryx2_world.specs.World.{World}
 use Rattle.iceoryx2_call_laws.specs.Quiet.{Quiet}
 use Rattle.iceoryx2_call_laws.proofs.quiet.Same.{tags_counted}
-use Rattle.iceoryx2_commands.specs.declared.command.Command.{Command}
-use Rattle.iceoryx2_commands.specs.declared.command.Reply.{Reply}
+use Rattle.iceoryx2_builder.specs.declared.command.Command.{Command}
+use Rattle.iceoryx2_builder.specs.declared.command.Reply.{Reply}
 use Rattle.iceoryx2_session.specs.Sessions.{SessionOver, SessionState, Applies, AppliesBy, AppliesInWorld}
 use Rattle.iceoryx2_session.specs.Sessions as goes
 use Rattle.iceoryx2_session.specs.CommandLists.{CarriesOut, none, first}

@@ -10,10 +10,10 @@ use Rattle.iceoryx2_call_laws.specs.Tickets.{CloseAnswer}
 use Rattle.iceoryx2_rounds.specs.Closes.{IsCloseWord}
 use Rattle.iceoryx2_rounds.proofs.HandedBack.{handed_back}
 use Rattle.iceoryx2_world.specs.World.{World}
-use Rattle.iceoryx2_commands.specs.declared.command.Call.{Call}
-use Rattle.iceoryx2_commands.specs.declared.command.Command.TheVariants as command
+use Rattle.iceoryx2_builder.specs.declared.command.Call.{Call}
+use Rattle.iceoryx2_builder.specs.declared.command.Command.TheVariants as command
 use Rattle.iceoryx2_errors.specs.declared.refusal.Refusal.{Refusal}
-use Rattle.iceoryx2_commands.specs.declared.command.Reply.TheVariants as reply
+use Rattle.iceoryx2_builder.specs.declared.command.Reply.TheVariants as reply
 use Rattle.iceoryx2_session.specs.Patterns.{builder_call}
 use Rattle.iceoryx2_session.specs.Slots.{FreeAt, HoldsAt}
 use Rattle.iceoryx2_session.specs.Sessions.{SessionOver, BuildsBy, LetsGoBy, ClosesOrHandsBackBy, AppliesBy}

@@ -5,7 +5,7 @@ use Rattle.iceoryx2_access.specs.Letter.{Letter}
 use Rattle.iceoryx2_access.specs.Run.{done}
 use Rattle.iceoryx2_access.proofs.Run.{one, both}
 use Rattle.iceoryx2_access.specs.Registered.{Registered}
-use Rattle.iceoryx2_commands.specs.Commands.{slot_count}
+use Rattle.iceoryx2_builder.specs.Commands.{slot_count}
 use Rattle.iceoryx2_session.specs.Sessions.{ClosesSlotBy, ClosesSlotsBy}
 
 -- the first k slots are closed, the others are as they were

@@ -1,8 +1,8 @@
 -- The begin and the end of a call change neither the world nor which nodes are own.
 use Rattle.std.proofs.Common.{◌≡◌, ℕ, Bool, ap, sym, subst, ◌∙◌}
 use Rattle.iceoryx2_world.specs.World.{World}
-use Rattle.iceoryx2_commands.specs.declared.command.Command.{Command}
-use Rattle.iceoryx2_commands.specs.declared.command.Reply.{Reply}
+use Rattle.iceoryx2_builder.specs.declared.command.Command.{Command}
+use Rattle.iceoryx2_builder.specs.declared.command.Reply.{Reply}
 use Rattle.iceoryx2_session.specs.CommandWords.{SpansSession}
 use Rattle.iceoryx2_session.specs.Sessions.{SessionOver, AppliesInWorld, shown_session}
 

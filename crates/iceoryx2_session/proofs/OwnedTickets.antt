@@ -20,9 +20,9 @@ use Rattle.iceoryx2_call_laws.proofs.calls.AnyLeft.{adds_its_ticket}
 use Rattle.iceoryx2_call_laws.proofs.calls.Tickets.{takes_its_ticket, removes_ticket}
 use Rattle.iceoryx2_call_laws.proofs.calls.Headline.{of_table}
 use Rattle.iceoryx2_errors.specs.declared.error.CloseError.TheVariants.{NotHere}
-use Rattle.iceoryx2_commands.specs.declared.command.Command.{Command}
+use Rattle.iceoryx2_builder.specs.declared.command.Command.{Command}
 use Rattle.iceoryx2_errors.specs.declared.refusal.Refusal.{Refusal}
-use Rattle.iceoryx2_commands.specs.declared.command.Reply.{Reply}
+use Rattle.iceoryx2_builder.specs.declared.command.Reply.{Reply}
 use Rattle.iceoryx2_session.specs.PatternCalls.{PatternCall}
 use Rattle.iceoryx2_session.specs.Patterns.{builder_call}
 use Rattle.iceoryx2_session.specs.Sessions.{SessionOver, SessionState, BuildsBy, LetsGoBy, HandsBackBy, ClosesFactoryBy, AppliesBy, Applies, AppliesInWorld}

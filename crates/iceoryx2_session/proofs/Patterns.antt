@@ -10,13 +10,13 @@ use Rattle.iceoryx2_description.specs.Span.{Span}
 use Rattle.iceoryx2_rounds.specs.BuilderCalls.{Way}
 use Rattle.iceoryx2_rounds.specs.LawfulCalls.{IsLawfulCall}
 use Rattle.iceoryx2_builder.proofs.LawfulCalls.{event_call_is_lawful, publish_subscribe_call_is_lawful, request_response_call_is_lawful}
-use Rattle.iceoryx2_commands.specs.declared.command.Settings.{Settings}
-use Rattle.iceoryx2_commands.specs.declared.command.Settings.TheVariants as settings
+use Rattle.iceoryx2_builder.specs.declared.command.Settings.{Settings}
+use Rattle.iceoryx2_builder.specs.declared.command.Settings.TheVariants as settings
 use Rattle.iceoryx2_session.specs.PatternCalls.{hash_for, way_of}
 use Rattle.iceoryx2_session.specs.Setters.{with_settings}
 use Rattle.iceoryx2_session.specs.PublishSubscribe.{named_message}
 use Rattle.iceoryx2_session.specs.RequestResponse.{named_messages}
-use Rattle.iceoryx2_commands.specs.declared.command.Call.{Call}
+use Rattle.iceoryx2_builder.specs.declared.command.Call.{Call}
 use Rattle.iceoryx2_session.specs.Patterns.{call_by, builder_call}
 
 -- one row a pattern

@@ -16,13 +16,13 @@ use Rattle.iceoryx2_rounds.specs.BuilderCalls.{Way}
 use Rattle.iceoryx2_call_laws.specs.Headline.{IsAsPromised}
 use Rattle.iceoryx2_call_laws.proofs.calls.Headline.{as_promised}
 use Rattle.iceoryx2_builder.proofs.Adjusting.{events_only_raise, publish_subscribe_only_raises, request_response_only_raises}
-use Rattle.iceoryx2_commands.specs.declared.command.Settings.{Settings}
-use Rattle.iceoryx2_commands.specs.declared.command.Settings.TheVariants as settings
-use Rattle.iceoryx2_commands.specs.declared.command.Call.{Call}
-use Rattle.iceoryx2_commands.specs.declared.command.Command.{Command}
+use Rattle.iceoryx2_builder.specs.declared.command.Settings.{Settings}
+use Rattle.iceoryx2_builder.specs.declared.command.Settings.TheVariants as settings
+use Rattle.iceoryx2_builder.specs.declared.command.Call.{Call}
+use Rattle.iceoryx2_builder.specs.declared.command.Command.{Command}
 use Rattle.iceoryx2_errors.specs.declared.refusal.Refusal.{Refusal}
-use Rattle.iceoryx2_commands.specs.declared.command.Reply.{Reply}
-use Rattle.iceoryx2_commands.specs.declared.command.Reply.TheVariants as reply
+use Rattle.iceoryx2_builder.specs.declared.command.Reply.{Reply}
+use Rattle.iceoryx2_builder.specs.declared.command.Reply.TheVariants as reply
 use Rattle.iceoryx2_session.specs.PatternCalls.{PatternCall, way_of}
 use Rattle.iceoryx2_session.specs.Patterns.{call_by, builder_call}
 use Rattle.iceoryx2_session.specs.Sessions.{SessionOver, BuildsBy, AppliesBy}

@@ -13,9 +13,9 @@ use Rattle.iceoryx2_call_laws.specs.Quiet.{Quiet, Shows, no_service}
 use Rattle.iceoryx2_call_laws.specs.QuietLaws.{HoldsTheSame}
 use Rattle.iceoryx2_call_laws.proofs.quiet.Listing.{lists_the_machine}
 use Rattle.iceoryx2_call_laws.proofs.quiet.Calls.{close_follows, empty_shows}
-use Rattle.iceoryx2_commands.specs.declared.command.Command.{Command}
+use Rattle.iceoryx2_builder.specs.declared.command.Command.{Command}
 use Rattle.iceoryx2_errors.specs.declared.refusal.Refusal.{Refusal}
-use Rattle.iceoryx2_commands.specs.declared.command.Reply.{Reply}
+use Rattle.iceoryx2_builder.specs.declared.command.Reply.{Reply}
 use Rattle.iceoryx2_session.specs.PatternCalls.{PatternCall}
 use Rattle.iceoryx2_session.specs.Patterns.{builder_call}
 use Rattle.iceoryx2_session.specs.Sessions.{SessionState, Builds, Applies}

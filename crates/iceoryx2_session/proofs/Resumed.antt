@@ -8,7 +8,7 @@ use Rattle.iceoryx2_world.specs.Across.{Agrees}
 use Rattle.iceoryx2_world.specs.Agreement.{Later}
 use Rattle.iceoryx2_world.specs.Standing.{ticket_for}
 use Rattle.iceoryx2_world.proofs.agreement.Stands.{stands_by_ticket}
-use Rattle.iceoryx2_commands.specs.Commands.{slot_count}
+use Rattle.iceoryx2_builder.specs.Commands.{slot_count}
 use Rattle.iceoryx2_session.specs.Resumed.{HaveTickets}
 use Rattle.iceoryx2_session.specs.Slots.{HoldsAt, held_at}
 use Rattle.iceoryx2_session.specs.StandingSlots.{SlotsStandUnder}

@@ -7,9 +7,9 @@ use Rattle.iceoryx2_world.proofs.Runs.{run_map_where}
 use Rattle.iceoryx2_world.specs.Interference.{IsFallibleUnder}
 use Rattle.iceoryx2_world.specs.Tables.{TableState, IsTableAccess}
 use Rattle.iceoryx2_world.specs.World.{World}
-use Rattle.iceoryx2_commands.specs.declared.command.Command.{Command}
+use Rattle.iceoryx2_builder.specs.declared.command.Command.{Command}
 use Rattle.iceoryx2_errors.specs.declared.refusal.Refusal.{Refusal}
-use Rattle.iceoryx2_commands.specs.declared.command.Reply.{Reply}
+use Rattle.iceoryx2_builder.specs.declared.command.Reply.{Reply}
 use Rattle.iceoryx2_session.specs.CommandLists.{CarriesOut, none, first}
 use Rattle.iceoryx2_session.specs.CommandWords.{AppliesAlong}
 use Rattle.iceoryx2_session.specs.PatternCalls.{PatternCall}

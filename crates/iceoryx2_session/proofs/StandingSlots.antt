@@ -24,15 +24,15 @@ use Rattle.iceoryx2_rounds.proofs.HandedBack.{removed_here}
 use Rattle.iceoryx2_call_laws.proofs.calls.Closed.{closes_what_stands}
 use Rattle.iceoryx2_call_laws.proofs.calls.Headline.{of_table}
 use Rattle.iceoryx2_rounds.specs.Closes.{IsCloseWord, not_here, still_counted, left, last}
-use Rattle.iceoryx2_commands.specs.declared.command.Command.{Command}
-use Rattle.iceoryx2_commands.specs.declared.command.Command.TheVariants as command
+use Rattle.iceoryx2_builder.specs.declared.command.Command.{Command}
+use Rattle.iceoryx2_builder.specs.declared.command.Command.TheVariants as command
 use Rattle.iceoryx2_errors.specs.declared.refusal.Refusal.{Refusal}
-use Rattle.iceoryx2_commands.specs.declared.command.Reply.{Reply}
+use Rattle.iceoryx2_builder.specs.declared.command.Reply.{Reply}
 use Rattle.iceoryx2_rounds.specs.Answers.{map_err}
 use Rattle.iceoryx2_description.specs.declared.config.Config.{Config}
 use Rattle.iceoryx2_session.specs.PatternCalls.{PatternCall}
 use Rattle.iceoryx2_session.specs.Patterns.{builder_call}
-use Rattle.iceoryx2_commands.specs.Commands.{slot_count}
+use Rattle.iceoryx2_builder.specs.Commands.{slot_count}
 use Rattle.iceoryx2_session.specs.Slots.{HoldsAt}
 use Rattle.iceoryx2_session.specs.Sessions.{SessionOver, SessionState, BuildsBy, HandsBackBy, ClosesFactoryBy, ClosesPlaceBy, ClosesSlotsBy, AppliesBy, Applies, IsClosedPlaceBy}
 use Rattle.iceoryx2_session.specs.Sessions.{ClosesSlotsInWorld, AppliesInWorld}

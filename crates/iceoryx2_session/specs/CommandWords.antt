@@ -14,11 +14,11 @@ use Rattle.iceoryx2_call_laws.specs.Tickets.{CloseAnswer, HandsNothingBack}
 use Rattle.iceoryx2_rounds.specs.BuilderCalls.{ErrorBy}
 use Rattle.iceoryx2_rounds.specs.CallWords.{IsWordOf}
 use Rattle.iceoryx2_rounds.specs.Closes.{IsCloseWord}
-use Rattle.iceoryx2_commands.specs.declared.command.Command.{Command}
-use Rattle.iceoryx2_commands.specs.declared.command.Command.TheVariants as command
+use Rattle.iceoryx2_builder.specs.declared.command.Command.{Command}
+use Rattle.iceoryx2_builder.specs.declared.command.Command.TheVariants as command
 use Rattle.iceoryx2_errors.specs.declared.refusal.Refusal.{Refusal}
-use Rattle.iceoryx2_commands.specs.declared.command.Reply.{Reply}
-use Rattle.iceoryx2_commands.specs.declared.command.Reply.TheVariants as reply
+use Rattle.iceoryx2_builder.specs.declared.command.Reply.{Reply}
+use Rattle.iceoryx2_builder.specs.declared.command.Reply.TheVariants as reply
 use Rattle.iceoryx2_session.specs.PatternCalls.{PatternCall}
 use Rattle.iceoryx2_session.specs.Patterns.{builder_call}
 use Rattle.iceoryx2_session.specs.Sessions.{SessionOver, AppliesBy, ClosesSlotsBy}

@@ -4,8 +4,8 @@ use Rattle.sha1.specs.Sha1.{sha1}
 use Rattle.iceoryx2_description.specs.declared.description.ServiceHash.{ServiceHash}
 use Rattle.iceoryx2_rounds.specs.BuilderCalls.{BuilderCall, ErrorBy, Way, ToCreate, ToOpen, ToOpenOrCreate}
 use Rattle.iceoryx2_rounds.specs.declared.open_or_create.OpenOrCreateRefusal.{OpenOrCreateRefusal}
-use Rattle.iceoryx2_commands.specs.declared.command.How.{How}
-use Rattle.iceoryx2_commands.specs.declared.command.How.TheVariants as how
+use Rattle.iceoryx2_builder.specs.declared.command.How.{How}
+use Rattle.iceoryx2_builder.specs.declared.command.How.TheVariants as how
 use Rattle.iceoryx2_errors.specs.declared.refusal.Refusal.{Refusal}
 
 pub record PatternCall : Type 1 where

@@ -8,9 +8,9 @@ use Rattle.iceoryx2_rounds.specs.BuilderCalls.{Way}
 use Rattle.iceoryx2_event_builder.specs.Builder as event
 use Rattle.iceoryx2_publish_subscribe_builder.specs.Builder as publish_subscribe
 use Rattle.iceoryx2_request_response_builder.specs.Builder as request_response
-use Rattle.iceoryx2_commands.specs.declared.command.Settings.{Settings}
-use Rattle.iceoryx2_commands.specs.declared.command.Settings.TheVariants as settings
-use Rattle.iceoryx2_commands.specs.declared.command.Call.{Call}
+use Rattle.iceoryx2_builder.specs.declared.command.Settings.{Settings}
+use Rattle.iceoryx2_builder.specs.declared.command.Settings.TheVariants as settings
+use Rattle.iceoryx2_builder.specs.declared.command.Call.{Call}
 use Rattle.iceoryx2_session.specs.PatternCalls.{PatternCall, way_of}
 use Rattle.iceoryx2_session.specs.Setters.{with_settings}
 use Rattle.iceoryx2_session.specs.Events.{event_pattern_call}

@@ -1,7 +1,7 @@
 //! The builder call of a command, whatever the pattern.
 
 ghost use Rattle.std.specs.Prelude.{◌≡◌, ◌<◌};
-ghost use Rattle.iceoryx2_commands.specs.Commands.{slot_count};
+ghost use Rattle.iceoryx2_builder.specs.Commands.{slot_count};
 ghost use Rattle.iceoryx2_session.specs.PatternCalls.{way_of};
 ghost use Rattle.iceoryx2_session.specs.Sessions.{OpensBy};
 ghost use Rattle.iceoryx2_session.specs.Slots.{FreeAt};
@@ -11,7 +11,7 @@ use crate::setters::{HasSetters, with_settings};
 use crate::slots::Slots;
 use iceoryx2_access::storage::Storage;
 use iceoryx2_attribute::attribute::{AttributeSpecifier, AttributeVerifier};
-use iceoryx2_commands::command::{How, Refusal};
+use iceoryx2_builder::command::{How, Refusal};
 use iceoryx2_description::time::{ClockFault, Time};
 
 /// A builder of one pattern, over a storage. Each of its calls is a function of its own, which puts what it opens into

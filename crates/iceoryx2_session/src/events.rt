@@ -10,7 +10,7 @@ use crate::table_storage::ServiceOver;
 use iceoryx2_access::storage::Storage;
 use iceoryx2_attribute::attribute::AttributeVerifier;
 use iceoryx2_builder::builder::event::Builder;
-use iceoryx2_commands::command::{EventSetter, Refusal};
+use iceoryx2_builder::command::{EventSetter, Refusal};
 use iceoryx2_description::time::{ClockFault, Time};
 
 impl<S: Storage> HasSetters for Builder<ServiceOver<S>> {

@@ -3,8 +3,8 @@
 ghost use Rattle.std.specs.Prelude.{◌≡◌, List};
 ghost use Rattle.iceoryx2_access.specs.Letter.{Letter};
 ghost use Rattle.iceoryx2_access.specs.Run.{Run};
-ghost use Rattle.iceoryx2_commands.specs.declared.command.Command.{Command};
-ghost use Rattle.iceoryx2_commands.specs.declared.command.Reply.{Reply};
+ghost use Rattle.iceoryx2_builder.specs.declared.command.Command.{Command};
+ghost use Rattle.iceoryx2_builder.specs.declared.command.Reply.{Reply};
 ghost use Rattle.iceoryx2_session.specs.CommandWords.{AppliesAlong};
 ghost use Rattle.iceoryx2_session.specs.Sessions.{Applies, AppliesBy, AppliesInWorld, SessionOver};
 ghost use Rattle.iceoryx2_session.specs.Sessions.{shown_session, shown_world};

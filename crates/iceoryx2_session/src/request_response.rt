@@ -10,7 +10,7 @@ use crate::table_storage::ServiceOver;
 use iceoryx2_access::storage::Storage;
 use iceoryx2_attribute::attribute::AttributeVerifier;
 use iceoryx2_builder::builder::request_response;
-use iceoryx2_commands::command::{Refusal, RequestResponseSetter};
+use iceoryx2_builder::command::{Refusal, RequestResponseSetter};
 use iceoryx2_description::time::{ClockFault, Time};
 use iceoryx2_types::types::{CustomHeaderMarker, CustomPayloadMarker, Slice};
 

@@ -3,7 +3,7 @@
 ghost use Rattle.std.specs.Prelude.{◌≡◌, ◌<◌, ◌≤◌, slice_set, slice_get, Some, None, MatchBool, replicate, length};
 ghost use Rattle.std.specs.Prelude.{take};
 
-use iceoryx2_commands::command::SLOTS;
+use iceoryx2_builder::command::SLOTS;
 use iceoryx2_rounds::port_factory::Registration;
 use std::marker::Model;
 
@@ -15,7 +15,7 @@ pub struct Slots {
 impl Model for Slots {
     ghost use Rattle.std.specs.Prelude.{◌≡◌, List, length, Option};
     ghost use Rattle.iceoryx2_access.specs.Registered.{Registered};
-    ghost use Rattle.iceoryx2_commands.specs.Commands.{slot_count};
+    ghost use Rattle.iceoryx2_builder.specs.Commands.{slot_count};
 
     ghost Value = { List (Option Registered) };
 
@@ -48,7 +48,7 @@ fn abandon_all(places: [Option<Registration>; SLOTS]) {
 }
 
 impl Slots {
-    ghost use Rattle.iceoryx2_commands.specs.Commands.{slot_count};
+    ghost use Rattle.iceoryx2_builder.specs.Commands.{slot_count};
     ghost use Rattle.std.specs.Prelude.{is_some, option_copied};
     ghost use Rattle.iceoryx2_session.specs.Slots.{FreeAt, TakenAt, held_at, tickets_of};
 

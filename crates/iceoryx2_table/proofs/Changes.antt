@@ -19,8 +19,8 @@ use Rattle.iceoryx2_world.specs.Acts.{Act}
 use Rattle.iceoryx2_world.specs.Acts as act
 use Rattle.iceoryx2_world.specs.Batches.{needs_room}
 use Rattle.iceoryx2_world.specs.Steps.{ServiceView, view_after, to_view, last_number, has_room, has_others, leave_of, new_segment, row_for, with_one, without_one, without_any}
-use Rattle.sorted_map.specs.Places.{place_in}
-use Rattle.sorted_map.proofs.Maps.{insert_same}
+use Rattle.finite_map.specs.Places.{place_in}
+use Rattle.finite_map.proofs.Maps.{insert_same}
 use Rattle.iceoryx2_table.specs.declared.services.Position.{Position}
 use Rattle.iceoryx2_table.specs.ServicesState.{ServicesState, Admits, Dismisses, StepsTo, StepsOrStays, Starves, TakesDescription, TakesLeave, TakesSegment, position_in, published_number, segment_fits, step_at}
 use Rattle.iceoryx2_table.specs.Recorded.{RecordsAdmission, RecordsStep}

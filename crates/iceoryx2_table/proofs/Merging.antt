@@ -14,7 +14,7 @@ use Rattle.iceoryx2_world.specs.declared.listing.Entry.{Entry}
 use Rattle.iceoryx2_world.specs.Orders.{hash_cmp, hash_total, hash_exact}
 use Rattle.iceoryx2_world.specs.World.{Segment}
 use Rattle.iceoryx2_world.specs.Listing.{entry_of, entry_at, by_hash, ListsAll}
-use Rattle.sorted_map.proofs.Edits.{back}
+use Rattle.finite_map.proofs.Edits.{back}
 use Rattle.iceoryx2_table.specs.Merge.{RowEntries, SegmentEntries, merge, Advances}
 
 pub less_of : (o : Ordering) → T (is_lt o) → o ≡ Less

@@ -6,8 +6,8 @@ use Rattle.std.specs.FinMap.{same_map, IsAntisymmetric}
 use Rattle.std.specs.Ordering.{eq_by_cmp}
 use Rattle.std.specs.declared.cmp.Ordering.{Ordering}
 use Rattle.std.specs.Cmp.{IsTotalOrder, Equal-is}
-use Rattle.sorted_map.specs.Places.{place_in}
-use Rattle.sorted_map.proofs.Ranks.{place_there}
+use Rattle.finite_map.specs.Places.{place_in}
+use Rattle.finite_map.proofs.Ranks.{place_there}
 use Rattle.iceoryx2_world.specs.declared.world.Row.{Row}
 use Rattle.iceoryx2_world.specs.declared.world.Row.TheVariants as row
 use Rattle.iceoryx2_world.specs.World.{set_to}

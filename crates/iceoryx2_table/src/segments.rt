@@ -10,11 +10,11 @@ ghost use Rattle.iceoryx2_world.specs.Listing.{listed_segment};
 ghost use Rattle.iceoryx2_world.specs.Steps.{new_segment, fits as fits_spec, has_room as has_room_spec};
 
 use crate::recorder::Recorder;
+use finite_map::sorted::SortedVec;
 use iceoryx2_access::storage::OpenSegmentError;
 use iceoryx2_description::description::{ServiceHash, StaticConfig};
 use iceoryx2_world::listing::ListedSegment;
 use iceoryx2_world::world::{Participant, Phase};
-use sorted_map::SortedVec;
 use std::alloc::{AllocError, Global};
 use std::marker::Model;
 
@@ -28,7 +28,7 @@ pub struct StoredSegment {
 }
 
 impl Model for StoredSegment {
-    ghost use Rattle.sorted_map.specs.Sorted.{map_of};
+    ghost use Rattle.finite_map.specs.Sorted.{map_of};
     ghost use Rattle.iceoryx2_world.specs.Orders.{participant_cmp};
     ghost use Rattle.iceoryx2_world.specs.World.{Segment};
     ghost use Rattle.iceoryx2_world.specs.Codes.{coded_segment};

@@ -3,8 +3,8 @@
 ghost use Rattle.std.specs.Prelude.{◌≡◌, ◌≢◌, ◌<◌, ◌+◌, is_some, Some, None, IsSome, IsTrue, IfOk, Ok, true};
 ghost use Rattle.std.specs.FinMap as map;
 ghost use Rattle.std.specs.Option.{option_copied};
-ghost use Rattle.sorted_map.specs.Sorted.{map_of, HasRoom};
-ghost use Rattle.sorted_map.specs.Places.{place_in};
+ghost use Rattle.finite_map.specs.Sorted.{map_of, HasRoom};
+ghost use Rattle.finite_map.specs.Places.{place_in};
 ghost use Rattle.iceoryx2_description.specs.Description.{IsDescription};
 ghost use Rattle.iceoryx2_world.specs.Orders.{place_cmp};
 ghost use Rattle.iceoryx2_world.specs.World.{unless_idle, set_to, begins as begins_spec};
@@ -22,12 +22,12 @@ use crate::merge::merge_entries;
 use crate::recorder::Recorder;
 use crate::rows::StoredRow;
 use crate::segments::StoredSegment;
+use finite_map::sorted::{Place, SortedVec};
 use iceoryx2_access::storage::{OpenSegmentError, Release};
-use iceoryx2_byte_form::bytes::encode;
+use iceoryx2_data::bytes::encode;
 use iceoryx2_description::description::{ServiceHash, StaticConfig};
 use iceoryx2_world::listing::Entry;
 use iceoryx2_world::world::{Participant, Phase};
-use sorted_map::{Place, SortedVec};
 use std::alloc::{AllocError, Global};
 use std::marker::Model;
 
@@ -41,7 +41,7 @@ pub struct Services {
 }
 
 impl Model for Services {
-    ghost use Rattle.sorted_map.specs.Sorted.{map_of};
+    ghost use Rattle.finite_map.specs.Sorted.{map_of};
     ghost use Rattle.iceoryx2_world.specs.Orders.{hash_cmp, place_cmp};
     ghost use Rattle.iceoryx2_table.specs.ServicesState.{ServicesState, coded_services};
 

@@ -2,3 +2,4 @@
 pub mod Types
 pub mod Errors
 pub mod Alignments
+pub mod Texts

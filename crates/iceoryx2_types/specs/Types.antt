@@ -2,7 +2,7 @@
 use Rattle.std.specs.Prelude.{ℕ, ◌≡◌, ◌≤◌, ◌*◌, List, length, max, Option, Some, None}
 use Rattle.std.specs.Prelude.{Bool, true, false, ◌&&◌, IsTrue, bytes_eq, nat_eq, nat_le}
 use Rattle.std.specs.Int.{is_power_of_two}
-use Rattle.iceoryx2_text.specs.Texts.{IsText}
+use Rattle.iceoryx2_types.specs.Texts.{IsText}
 use Rattle.iceoryx2_types.specs.declared.types.TheConstants.{MIN_TYPE_NAME_LENGTH, MAX_TYPE_NAME_LENGTH}
 use Rattle.iceoryx2_types.specs.declared.types.TypeVariant.{TypeVariant}
 use Rattle.iceoryx2_types.specs.declared.types.TypeVariant.TheVariants.{FixedSize, Dynamic}

@@ -4,7 +4,7 @@ use Rattle.std.specs.Prelude.{◌≡◌, ◌≢◌, ℕ, ◌+◌, ◌≤◌, Boo
 use Rattle.std.specs.Prelude.{Some, None, Result, Ok, Err, unwrap_or}
 use Rattle.iceoryx2_description.specs.declared.description.ServiceHash.{ServiceHash}
 use Rattle.iceoryx2_description.specs.Description.{Description}
-use Rattle.iceoryx2_byte_form.specs.Form.{IsForm}
+use Rattle.iceoryx2_data.specs.Form.{IsForm}
 use Rattle.iceoryx2_access.specs.declared.storage.Release.{Release as Released}
 use Rattle.iceoryx2_access.specs.declared.storage.ReleaseError.{ReleaseError}
 use Rattle.iceoryx2_access.specs.declared.storage.RemoveError.{RemoveError}

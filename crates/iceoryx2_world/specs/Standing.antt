@@ -1,7 +1,7 @@
 -- When a factory stands.
 use Rattle.std.specs.Prelude.{◌≡◌, Some, Ok}
 use Rattle.iceoryx2_description.specs.Description.{IsDescription}
-use Rattle.iceoryx2_byte_form.specs.Form as form
+use Rattle.iceoryx2_data.specs.Form as form
 use Rattle.iceoryx2_world.specs.declared.world.Participant.TheVariants.{Node}
 use Rattle.iceoryx2_world.specs.declared.world.Ticket.{Ticket}
 use Rattle.iceoryx2_world.specs.declared.world.Row.TheVariants as row

@@ -3,7 +3,7 @@
 use crate::samples::{NAME, OTHER, prepared};
 use crate::sessions::{call, is_opened};
 use crate::trial::{Trial, Wrong, each_request};
-use iceoryx2_commands::command::{How, Reply};
+use iceoryx2_builder::command::{How, Reply};
 use iceoryx2_description::config::Config;
 use iceoryx2_journal::journal::Journal;
 use iceoryx2_log::entry::Entry;

@@ -2,7 +2,7 @@
 
 use crate::samples::{self, NAME, OTHER, drop_table, prepared};
 use crate::trial::{Wrong, refuse_all, without_memory};
-use iceoryx2_commands::command::{
+use iceoryx2_builder::command::{
     Command, How, PublishSubscribeSetter, Reply, RequestResponseSetter, Settings,
 };
 use iceoryx2_description::config::Config;

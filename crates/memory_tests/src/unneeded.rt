@@ -3,7 +3,7 @@
 use crate::samples::{self, NAME, drop_table, prepared};
 use crate::trial::{Wrong, refuse_all, without_memory};
 use iceoryx2_builder::builder::Node;
-use iceoryx2_commands::command::{EventSetter, RequestResponseSetter};
+use iceoryx2_builder::command::{EventSetter, RequestResponseSetter};
 use iceoryx2_description::config::Config;
 use iceoryx2_description::description::{ServiceHash, ServiceName};
 use iceoryx2_description::event::EventId;

@@ -2,10 +2,10 @@
 use Rattle.std.proofs.Common.{◌≡◌, ◌<◌, ◌⊎◌, inl, inr, length, arith, ℕ, true, false, List, [], ◌∷◌, bytes_eq, codes, refl, sym, ap, subst, ◌∙◌}
 use Rattle.std.specs.Prelude.{Result, Ok, Err}
 use Rattle.std.specs.Result.{IsErrAnd}
-use Rattle.iceoryx2_commands.specs.declared.command.How.{How}
-use Rattle.iceoryx2_commands.specs.declared.command.How.TheVariants as how
-use Rattle.iceoryx2_commands.specs.Commands.{slot_count}
-use Rattle.iceoryx2_text.specs.Texts.{IsText}
+use Rattle.iceoryx2_builder.specs.declared.command.How.{How}
+use Rattle.iceoryx2_builder.specs.declared.command.How.TheVariants as how
+use Rattle.iceoryx2_builder.specs.Commands.{slot_count}
+use Rattle.iceoryx2_types.specs.Texts.{IsText}
 use Rattle.iceoryx2_description.specs.Names.{IsName}
 use Rattle.negotiate_lines.specs.declared.leaf.Form.{Form}
 use Rattle.negotiate_lines.specs.declared.wrong.Flaw.{Flaw}

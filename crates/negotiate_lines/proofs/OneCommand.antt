@@ -1,12 +1,12 @@
 -- Which command terms can be, by the first of them.
 use Rattle.std.proofs.Common.{◌≡◌, ◌≢◌, ℕ, List, [], ◌∷◌, codes, refl}
 use Rattle.iceoryx2_access.specs.Run.{Each}
-use Rattle.iceoryx2_commands.specs.declared.command.Call.{Call}
-use Rattle.iceoryx2_commands.specs.declared.command.Command.{Command}
-use Rattle.iceoryx2_commands.specs.declared.command.Command.TheVariants as command
-use Rattle.iceoryx2_commands.specs.declared.command.Settings.{Settings}
-use Rattle.iceoryx2_commands.specs.declared.command.Settings.TheVariants as settings
-use Rattle.iceoryx2_commands.specs.Commands.{slot_count}
+use Rattle.iceoryx2_builder.specs.declared.command.Call.{Call}
+use Rattle.iceoryx2_builder.specs.declared.command.Command.{Command}
+use Rattle.iceoryx2_builder.specs.declared.command.Command.TheVariants as command
+use Rattle.iceoryx2_builder.specs.declared.command.Settings.{Settings}
+use Rattle.iceoryx2_builder.specs.declared.command.Settings.TheVariants as settings
+use Rattle.iceoryx2_builder.specs.Commands.{slot_count}
 use Rattle.iceoryx2_event_builder.specs.declared.event.setting.EventSetter.{EventSetter}
 use Rattle.iceoryx2_publish_subscribe_builder.specs.declared.publish_subscribe.setting.PublishSubscribeSetter.{PublishSubscribeSetter}
 use Rattle.iceoryx2_request_response_builder.specs.declared.request_response.setting.RequestResponseSetter.{RequestResponseSetter}

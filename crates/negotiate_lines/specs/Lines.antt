@@ -1,7 +1,7 @@
 -- What a line is.
 use Rattle.std.specs.Prelude.{ℕ, ◌≡◌, ◌≢◌, ◌-◌, ◌==◌, List, [], length, take, slice_index, if◌then◌else◌}
 use Rattle.std.specs.Str.{IsUtf8}
-use Rattle.iceoryx2_commands.specs.declared.command.Command.{Command}
+use Rattle.iceoryx2_builder.specs.declared.command.Command.{Command}
 use Rattle.negotiate_lines.specs.declared.leaf.Form.{Form}
 use Rattle.negotiate_lines.specs.declared.leaf.Form.TheVariants as form
 use Rattle.negotiate_lines.specs.Terms.{terms_of}

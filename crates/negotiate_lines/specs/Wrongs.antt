@@ -12,9 +12,9 @@ use Rattle.iceoryx2_attribute.specs.declared.attribute.TheConstants.{MAX_ATTRIBU
 use Rattle.iceoryx2_description.specs.Names.{IsName}
 use Rattle.iceoryx2_description.specs.Span.{Span}
 use Rattle.iceoryx2_description.specs.declared.time.ClockFault.{ClockFault}
-use Rattle.iceoryx2_commands.specs.declared.command.How.{How}
-use Rattle.iceoryx2_commands.specs.declared.command.How.TheVariants as how
-use Rattle.iceoryx2_commands.specs.Commands.{slot_count}
+use Rattle.iceoryx2_builder.specs.declared.command.How.{How}
+use Rattle.iceoryx2_builder.specs.declared.command.How.TheVariants as how
+use Rattle.iceoryx2_builder.specs.Commands.{slot_count}
 use Rattle.negotiate_lines.specs.declared.leaf.Form.{Form}
 use Rattle.negotiate_lines.specs.declared.vocabulary.Admitted.{Admitted}
 use Rattle.negotiate_lines.specs.declared.vocabulary.Kind.{Kind}

@@ -20,7 +20,7 @@ use crate::wrong::{Flaw, Wrong};
 use crate::wrong_terms::wrong_term;
 use iceoryx2_attribute::attribute::AttributeError::{self, KeyLength, TooMany, ValueLength};
 use iceoryx2_attribute::attribute::AttributeVerifier;
-use iceoryx2_commands::command::How;
+use iceoryx2_builder::command::How;
 use iceoryx2_description::time::{ClockFault, Time};
 use std::alloc::Global;
 use std::borrow::CowStr;

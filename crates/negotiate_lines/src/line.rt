@@ -1,9 +1,9 @@
 //! What a line is.
 
 ghost use Rattle.std.specs.Prelude.{◌≡◌, ◌∷◌, IfOk, codes};
-ghost use Rattle.iceoryx2_commands.specs.declared.command.Call.{Call};
-ghost use Rattle.iceoryx2_commands.specs.declared.command.Command.TheVariants as command;
-ghost use Rattle.iceoryx2_commands.specs.Commands.{slot_count};
+ghost use Rattle.iceoryx2_builder.specs.declared.command.Call.{Call};
+ghost use Rattle.iceoryx2_builder.specs.declared.command.Command.TheVariants as command;
+ghost use Rattle.iceoryx2_builder.specs.Commands.{slot_count};
 ghost use Rattle.negotiate_lines.specs.Terms.{Finds, IsNumber, terms_of};
 ghost use Rattle.negotiate_lines.specs.Values.{IsNatural};
 ghost use Rattle.negotiate_lines.specs.Commands.{IsCommandOf, IsNamedCallOf, admitted_of, as_named, how_term};
@@ -17,7 +17,7 @@ use crate::setting_terms::{EventTerms, PublishSubscribeTerms, RequestResponseTer
 use crate::term::{TermError, next_term, number};
 use crate::vocabulary::{Admitted, HasVocabulary};
 use crate::wrong::{Flaw, Wrong};
-use iceoryx2_commands::command::{Call, Command, How, SLOTS, Settings};
+use iceoryx2_builder::command::{Call, Command, How, SLOTS, Settings};
 use iceoryx2_description::description::{ServiceName, ServiceNameError};
 use std::alloc::{AllocError, Global};
 

@@ -2,7 +2,7 @@
 
 ghost use Rattle.std.specs.Prelude.{◌≡◌, ◌∷◌, [], IfOk, true};
 ghost use Rattle.std.specs.Result.{result_map_both};
-ghost use Rattle.iceoryx2_commands.specs.Commands.{slot_count};
+ghost use Rattle.iceoryx2_builder.specs.Commands.{slot_count};
 ghost use Rattle.negotiate_lines.specs.Terms.{Finds, IsNumber, Reads, terms_of};
 ghost use Rattle.negotiate_lines.specs.Questions.{AsksIn, IsOnly, IsOnlyOrNone, IsQuestionOf, IsRequest};
 ghost use Rattle.negotiate_lines.specs.Questions.{is_question_word};
@@ -10,7 +10,7 @@ ghost use Rattle.negotiate_lines.specs.Questions.{is_question_word};
 use crate::leaf::{Form, bytes_of_leaf};
 use crate::line::{Line, parse_in};
 use crate::term::{TermError, next_term, number, number_below};
-use iceoryx2_commands::command::SLOTS;
+use iceoryx2_builder::command::SLOTS;
 use std::alloc::{AllocError, Global};
 
 /// What a session is asked beside commands.

@@ -9,7 +9,7 @@ use crate::term::{TermError, number};
 use crate::type_term::{alignment, type_detail};
 use crate::value::{duration_or_none, event_or_none, truth_value};
 use crate::vocabulary::{HasVocabulary, Kind};
-use iceoryx2_commands::command::{EventSetter, PublishSubscribeSetter, RequestResponseSetter};
+use iceoryx2_builder::command::{EventSetter, PublishSubscribeSetter, RequestResponseSetter};
 use std::alloc::Global;
 
 /// The names of the settings, with the kind of value that each takes.

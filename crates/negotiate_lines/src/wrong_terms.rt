@@ -11,7 +11,7 @@ use crate::line::admitted;
 use crate::term::around;
 use crate::vocabulary::{HasVocabulary, Kind};
 use crate::wrong::Wrong;
-use iceoryx2_commands::command::How;
+use iceoryx2_builder::command::How;
 
 /// What is wrong with a term that means nothing.
 pub(crate) fn wrong_term<'a, V: HasVocabulary>(form: Form, how: How, term: &'a str) -> Wrong<'a>

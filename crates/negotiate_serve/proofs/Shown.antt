@@ -7,9 +7,9 @@ use Rattle.iceoryx2_description.specs.Defaults.{default_config}
 use Rattle.iceoryx2_world.specs.Across.{Agrees}
 use Rattle.iceoryx2_world.specs.Tables.{TableState}
 use Rattle.iceoryx2_call_laws.specs.Quiet.{Quiet, no_service}
-use Rattle.iceoryx2_commands.specs.Commands.{slot_count}
-use Rattle.iceoryx2_commands.specs.declared.command.Command.{Command}
-use Rattle.iceoryx2_commands.specs.declared.command.Reply.{Reply}
+use Rattle.iceoryx2_builder.specs.Commands.{slot_count}
+use Rattle.iceoryx2_builder.specs.declared.command.Command.{Command}
+use Rattle.iceoryx2_builder.specs.declared.command.Reply.{Reply}
 use Rattle.iceoryx2_session.specs.Sessions.{SessionState}
 use Rattle.iceoryx2_session.specs.StandingSlots.{SlotsStand, OwnsTickets, ClosesTaken}
 use Rattle.iceoryx2_session.specs.QuietSessions.{IsQuiet, IsMoved, Moves}

@@ -1,6 +1,6 @@
 -- What is written by one that answers is what is written by another one that it goes along with.
 use Rattle.std.proofs.Common.{ℕ, List, [], codes, Result, Ok, Err}
-use Rattle.iceoryx2_commands.specs.declared.command.Command.{Command}
+use Rattle.iceoryx2_builder.specs.declared.command.Command.{Command}
 use Rattle.iceoryx2_session.specs.CommandLists.{CarriesOut, none, first}
 use Rattle.negotiate_serve.specs.declared.ending.Ending.{Ending}
 use Rattle.negotiate_serve.specs.declared.ending.Ending.TheVariants as ending

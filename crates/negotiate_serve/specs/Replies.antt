@@ -5,13 +5,13 @@ use Rattle.hex.specs.Hex.{encode_lower}
 use Rattle.iceoryx2_description.specs.declared.description.MessagingPattern.{MessagingPattern}
 use Rattle.iceoryx2_description.specs.declared.description.MessagingPattern.TheVariants as pattern
 use Rattle.iceoryx2_description.specs.Description.{Description}
-use Rattle.iceoryx2_byte_form.specs.Form.{IsForm}
+use Rattle.iceoryx2_data.specs.Form.{IsForm}
 use Rattle.iceoryx2_errors.specs.Texts.{text_of}
 use Rattle.iceoryx2_world.specs.declared.listing.Entry.{Entry}
 use Rattle.iceoryx2_world.specs.declared.listing.ListedRow.TheVariants as listed
 use Rattle.iceoryx2_world.specs.declared.listing.ListedSegment.{ListedSegment}
-use Rattle.iceoryx2_commands.specs.declared.command.Reply.{Reply}
-use Rattle.iceoryx2_commands.specs.declared.command.Reply.TheVariants as reply
+use Rattle.iceoryx2_builder.specs.declared.command.Reply.{Reply}
+use Rattle.iceoryx2_builder.specs.declared.command.Reply.TheVariants as reply
 use Rattle.negotiate_lines.specs.declared.leaf.Form.{Form}
 use Rattle.negotiate_lines.specs.declared.leaf.Form.TheVariants as form
 use Rattle.negotiate_lines.specs.Leaves.{leaf_of}

@@ -2,7 +2,7 @@
 use Rattle.std.specs.Prelude.{◌≡◌, ℕ, Bool, true, false, List, [], ◌∷◌, ◌++◌, Option, Some, None, Result, Ok, Err, OnOk}
 use Rattle.std.specs.Prelude.{codes}
 use Rattle.std.specs.Io.KnownBytes.{Appends}
-use Rattle.iceoryx2_commands.specs.declared.command.Command.{Command}
+use Rattle.iceoryx2_builder.specs.declared.command.Command.{Command}
 use Rattle.iceoryx2_description.specs.declared.description.ServiceHash.{ServiceHash}
 use Rattle.iceoryx2_description.specs.Defaults.{default_config}
 use Rattle.iceoryx2_world.specs.World.{ticket_of}

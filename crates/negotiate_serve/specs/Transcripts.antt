@@ -5,10 +5,10 @@ use Rattle.std.specs.List.{concat}
 use Rattle.iceoryx2_access.specs.Registered.{Registered}
 use Rattle.iceoryx2_description.specs.Defaults.{default_config}
 use Rattle.iceoryx2_call_laws.specs.Quiet.{Quiet, no_service}
-use Rattle.iceoryx2_commands.specs.declared.command.Command.{Command}
-use Rattle.iceoryx2_commands.specs.declared.command.Command.TheVariants as command
-use Rattle.iceoryx2_commands.specs.declared.command.Reply.{Reply}
-use Rattle.iceoryx2_commands.specs.Commands.{slot_count}
+use Rattle.iceoryx2_builder.specs.declared.command.Command.{Command}
+use Rattle.iceoryx2_builder.specs.declared.command.Command.TheVariants as command
+use Rattle.iceoryx2_builder.specs.declared.command.Reply.{Reply}
+use Rattle.iceoryx2_builder.specs.Commands.{slot_count}
 use Rattle.iceoryx2_session.specs.CommandLists.{CarriesOut}
 use Rattle.iceoryx2_session.specs.QuietSessions.{Moves}
 use Rattle.negotiate_lines.specs.declared.line.Line.TheVariants as line

@@ -1,7 +1,7 @@
 //! What answers the lines of a program.
 
 ghost use Rattle.std.specs.Prelude.{◌≡◌, ℕ, List, OnOk, string_bytes};
-ghost use Rattle.iceoryx2_commands.specs.declared.command.Command.{Command};
+ghost use Rattle.iceoryx2_builder.specs.declared.command.Command.{Command};
 ghost use Rattle.iceoryx2_session.specs.SessionStates.{own_state};
 ghost use Rattle.negotiate_lines.specs.declared.line.Line.TheVariants as parsed;
 ghost use Rattle.negotiate_lines.specs.Lines.{IsLine};
@@ -9,7 +9,7 @@ ghost use Rattle.negotiate_serve.specs.Transcripts.{slot_named};
 ghost use Rattle.negotiate_serve.specs.Served.{GrowsByAnswer, SessionReplies, ShowsSome};
 
 use crate::reply::describe;
-use iceoryx2_commands::command::Command;
+use iceoryx2_builder::command::Command;
 use iceoryx2_session::session::Session;
 use iceoryx2_table::table::Table;
 use std::alloc::AllocError;

@@ -4,8 +4,8 @@ ghost use Rattle.std.specs.Prelude.{◌≡◌, ◌++◌, IfOk, OnOk, string_byte
 ghost use Rattle.negotiate_serve.specs.Replies.{GrowsBy, GrowsByEntry, GrowsByService, ListsServices, IsReplyText};
 ghost use Rattle.negotiate_serve.specs.Replies.{how_many_it_has, name_in, pattern_term, who_it_is};
 
-use iceoryx2_byte_form::bytes::{DecodeError, decode};
-use iceoryx2_commands::command::Reply;
+use iceoryx2_builder::command::Reply;
+use iceoryx2_data::bytes::{DecodeError, decode};
 use iceoryx2_description::description::{MessagingPattern, ServiceHash, StaticConfig};
 use iceoryx2_world::listing::{Entry, ListedRow, ListedSegment};
 use negotiate_lines::leaf::{Form, escape_leaf};

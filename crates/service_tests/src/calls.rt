@@ -3,8 +3,8 @@
 pub use crate::support::{assert_same, drop_table, granted, name, there};
 use iceoryx2_access::storage::Service;
 use iceoryx2_builder::builder::{Builder, Node};
-pub use iceoryx2_commands::command::How;
-use iceoryx2_commands::command::Reply;
+pub use iceoryx2_builder::command::How;
+use iceoryx2_builder::command::Reply;
 use iceoryx2_description::config::Config;
 use iceoryx2_description::time::Time;
 use iceoryx2_table::local::Local;

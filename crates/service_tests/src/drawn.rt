@@ -2,8 +2,8 @@
 
 use self::Deed::*;
 use crate::support::{draw, granted, push, there};
-use iceoryx2_byte_form::bytes::decode;
-use iceoryx2_commands::command::{Command, SLOTS};
+use iceoryx2_builder::command::{Command, SLOTS};
+use iceoryx2_data::bytes::decode;
 use iceoryx2_description::description::{ServiceHash, StaticConfig};
 use iceoryx2_table::table::{Act, Step};
 use std::alloc::Global;

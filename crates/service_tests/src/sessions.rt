@@ -1,7 +1,7 @@
 //! A session answers commands one by one as in one go: over a table, over a traced one, and by what it asks of any world.
 
 use crate::support::{assert_same, drop_table, granted, push, there};
-use iceoryx2_commands::command::{Command, Refusal, Reply};
+use iceoryx2_builder::command::{Command, Refusal, Reply};
 use iceoryx2_description::config::Config;
 use iceoryx2_errors::error::EventOpenError;
 use iceoryx2_session::session::{Session, TableSession};

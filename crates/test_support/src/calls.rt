@@ -4,7 +4,7 @@
 use iceoryx2_access::storage::Service;
 use iceoryx2_attribute::attribute::{AttributeSpecifier, AttributeVerifier};
 use iceoryx2_builder::builder::{Builder, event, publish_subscribe, request_response};
-use iceoryx2_commands::command::{self as commands, Command, How, Refusal, Settings};
+use iceoryx2_builder::command::{self as commands, Command, How, Refusal, Settings};
 use iceoryx2_description::description::ServiceName;
 use iceoryx2_description::time::{ClockFault, Time};
 use iceoryx2_rounds::port_factory::Registration;

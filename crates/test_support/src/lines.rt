@@ -2,8 +2,8 @@
 
 use crate::body::Body;
 use crate::places::Places;
-use iceoryx2_byte_form::bytes::encode;
-use iceoryx2_commands::command::Command;
+use iceoryx2_builder::command::Command;
+use iceoryx2_data::bytes::encode;
 use iceoryx2_table::local::Local;
 use iceoryx2_table::table::Table;
 use negotiate_lines::line::{Line, parse};

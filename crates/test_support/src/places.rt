@@ -5,7 +5,7 @@ use crate::calls::{Ask, Called, Calls, Now, messages, requests};
 use iceoryx2_access::storage::{Service, Storage};
 use iceoryx2_attribute::attribute::{AttributeSpecifier, AttributeVerifier};
 use iceoryx2_builder::builder::Node;
-use iceoryx2_commands::command::{Call, How, Reply, SLOTS, Settings};
+use iceoryx2_builder::command::{Call, How, Reply, SLOTS, Settings};
 use iceoryx2_description::config::Config;
 use iceoryx2_description::description::StaticConfig;
 use iceoryx2_rounds::port_factory::{CloseError, Registration};

@@ -1,7 +1,7 @@
 //! What stands under one hash in the plain table, and the steps of participants there.
 
 use iceoryx2_access::storage::{Existence, FetchError, OpenSegmentError};
-use iceoryx2_byte_form::bytes::encode;
+use iceoryx2_data::bytes::encode;
 use iceoryx2_description::description::{ServiceHash, StaticConfig};
 use iceoryx2_table::table::Act;
 use iceoryx2_world::listing::{Entry, ListedRow, ListedSegment};

@@ -12,9 +12,9 @@ use Rattle.iceoryx2_publish_subscribe_builder.specs.declared.publish_subscribe.s
 use Rattle.iceoryx2_request_response_builder.specs.Builder as request_response
 use Rattle.iceoryx2_request_response_builder.specs.declared.request_response.setting.RequestResponseSetter.{RequestResponseSetter}
 use Rattle.iceoryx2_request_response_builder.specs.declared.request_response.setting.RequestResponseSetter.TheVariants as rr
-use Rattle.iceoryx2_commands.specs.declared.command.Settings.{Settings}
-use Rattle.iceoryx2_commands.specs.declared.command.Settings.TheVariants as settings
-use Rattle.iceoryx2_commands.specs.declared.command.Call.{Call}
+use Rattle.iceoryx2_builder.specs.declared.command.Settings.{Settings}
+use Rattle.iceoryx2_builder.specs.declared.command.Settings.TheVariants as settings
+use Rattle.iceoryx2_builder.specs.declared.command.Call.{Call}
 use Rattle.iceoryx2_session.specs.PatternCalls.{way_of}
 use Rattle.iceoryx2_session.specs.Patterns.{call_by, builder_call}
 use Rattle.iceoryx2_session.specs.Setters.{with_settings}

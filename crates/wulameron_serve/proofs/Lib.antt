@@ -5,3 +5,7 @@ pub mod OwnCommands
 pub mod OwnTerms
 pub mod Tellings
 pub mod UntilHalted
+pub mod EscapedWords
+pub mod Factories
+pub mod LineEnds
+pub mod Told

@@ -9,3 +9,6 @@ pub mod Served
 pub mod Shared
 pub mod Telling
 pub mod Views
+pub mod Holding
+pub mod Refusals
+pub mod Words

@@ -2,9 +2,9 @@
 
 ghost use Rattle.std.specs.Prelude.{◌≡◌, ◌-◌, ℕ, List, IfErr, IfOk, IfSome, OnOk, codes, string_bytes, true};
 ghost use Rattle.iceoryx2_world.specs.Across.{Agrees};
-ghost use Rattle.iceoryx2_commands.specs.declared.command.Command as declared-command;
-ghost use Rattle.iceoryx2_commands.specs.declared.command.Command.TheVariants as command;
-ghost use Rattle.iceoryx2_commands.specs.declared.command.Reply as declared-reply;
+ghost use Rattle.iceoryx2_builder.specs.declared.command.Command as declared-command;
+ghost use Rattle.iceoryx2_builder.specs.declared.command.Command.TheVariants as command;
+ghost use Rattle.iceoryx2_builder.specs.declared.command.Reply as declared-reply;
 ghost use Rattle.iceoryx2_session.specs.CommandWords.{AppliesHeld, ClosesHeld, SpansSession, SpansTraced};
 ghost use Rattle.iceoryx2_session.specs.Sessions.{AppliesBy, SessionOver};
 ghost use Rattle.iceoryx2_session.specs.SessionStates.{own_state};
@@ -27,7 +27,7 @@ use crate::dead::{clean_dead, is_blocked};
 use crate::own_lines::OfNode;
 use crate::view::Viewed;
 use escaped_serve::reply::describe_escaped;
-use iceoryx2_commands::command::{Call, Command, Reply};
+use iceoryx2_builder::command::{Call, Command, Reply};
 use iceoryx2_description::config::Config;
 use iceoryx2_session::resuming::Resuming;
 use iceoryx2_session::session::Session;

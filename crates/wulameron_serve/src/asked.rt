@@ -16,7 +16,7 @@ use crate::nodes::{SharedNodes, answer_nodes};
 use crate::view::Viewed;
 use escaped_serve::answerer::Asked;
 use escaped_serve::questions::answer_question;
-use iceoryx2_commands::command::Command;
+use iceoryx2_builder::command::Command;
 use iceoryx2_session::resuming::Resuming;
 use negotiate_lines::leaf::Form;
 use negotiate_lines::question::Question;

@@ -5,7 +5,7 @@ ghost use Rattle.iceoryx2_session.specs.SessionStates.{own_state};
 ghost use Rattle.wulameron_serve.specs.Dead.{is_blocked as is_blocked_spec};
 ghost use Rattle.iceoryx2_session.specs.CommandWords.{SpansSession};
 
-use iceoryx2_commands::command::Reply;
+use iceoryx2_builder::command::Reply;
 use iceoryx2_journal::cleaning::{CleanError, Cleaned};
 use iceoryx2_session::session::Session;
 use iceoryx2_session::world_storage::WorldStorage;

@@ -25,6 +25,21 @@
 //! after one, it is told why in place of its reply (`TellsTrouble`), and no later line is answered. The private
 //! `escaped::serve_log` starts the node and greets first, or tells why not (`ServesEscapedLog`). `gone::refuse_session`
 //! tells that the sessions of before are gone.
+//!
+//! The command that makes one call, and holds what it gives until an input ends, is here too.
+//!
+//! `holding::hold_call`, over a session of a journal: the call is made by its own grammar; where it gives a factory
+//! exactly what `show` prints of it is written, or a front of that, and the slot is closed afterwards, whatever
+//! came; where it is refused nothing is written (`Holds`, `HoldsMade`). Its status is exact (`hold_status`, `end_status`). That
+//! it waits until the input ends is tested.
+//!
+//! `refused::tell_refusal`: of a refusal exactly its line is written, and behind it what the call required beside what the
+//! service offers (`refusal_line`, `offered_lines`); `offer_to` gives the service of the call's name and pattern that is
+//! published in the storage's world (`IsFoundIn`). `remedy::remedy`: each refusal has its text (`remedy_of`). That `hold`
+//! tells the service that was there when the call was refused is tested.
+//!
+//! `holding::call_line`: the words of a call are the terms of an escaped line (`call_line`, `word_of`), so that a name and the
+//! leaves of a term may have blanks. That what is wrong is told of the words as they were given is tested.
 #![tactic(auto)]
 
 pub mod answerer;
@@ -33,10 +48,15 @@ pub mod cleaning;
 pub mod dead;
 pub mod escaped;
 pub mod gone;
+pub mod hold;
+pub mod holding;
 pub mod lines;
 pub mod nodes;
 pub mod own_lines;
+pub mod refused;
+pub mod remedy;
 pub mod run;
 pub mod telling;
 pub mod told_lines;
 pub mod view;
+pub mod words;

@@ -1,8 +1,8 @@
 //! How a reply is written over a storage: plain, or with the accesses that the storage keeps.
 
 ghost use Rattle.std.specs.Prelude.{◌≡◌, ℕ, ◌-◌, List, OnOk, string_bytes};
-ghost use Rattle.iceoryx2_commands.specs.declared.command.Command.{Command};
-ghost use Rattle.iceoryx2_commands.specs.declared.command.Reply as declared-reply;
+ghost use Rattle.iceoryx2_builder.specs.declared.command.Command.{Command};
+ghost use Rattle.iceoryx2_builder.specs.declared.command.Reply as declared-reply;
 ghost use Rattle.iceoryx2_session.specs.Sessions.{SessionOver, AppliesBy};
 ghost use Rattle.negotiate_serve.specs.Replies.{GrowsBy};
 ghost use Rattle.negotiate_serve.specs.Transcripts.{slot_named};
@@ -10,7 +10,7 @@ ghost use Rattle.explain_serve.specs.Explained.{MayHaveReason, refusal_of};
 ghost use Rattle.wulameron_serve.specs.Views.{WritesExplained, WritesPlain};
 
 use explain_serve::lines::describe_lines;
-use iceoryx2_commands::command::Reply;
+use iceoryx2_builder::command::Reply;
 use iceoryx2_journal::journal::Journal;
 use iceoryx2_log::call_log::SpansCalls;
 use iceoryx2_session::world_storage::WorldStorage;

@@ -1,7 +1,7 @@
 -- The description that bytes are the form of.
 use Rattle.std.specs.Prelude.{ℕ, List, Option, Some, None}
 use Rattle.iceoryx2_description.specs.Description.{Description}
-use Rattle.iceoryx2_byte_form.specs.Form.{IsForm}
+use Rattle.iceoryx2_data.specs.Form.{IsForm}
 
 -- The bytes are this description's form, or no description's.
 abbrev pub IsRead : List ℕ → Option Description → Type 0

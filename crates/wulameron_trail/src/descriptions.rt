@@ -3,7 +3,7 @@
 ghost use Rattle.std.specs.Prelude.{IfOk};
 ghost use Rattle.wulameron_trail.specs.Descriptions.{IsRead};
 
-use iceoryx2_byte_form::bytes::{DecodeError, decode};
+use iceoryx2_data::bytes::{DecodeError, decode};
 use iceoryx2_description::description::StaticConfig;
 use std::alloc::{AllocError, Global};
 

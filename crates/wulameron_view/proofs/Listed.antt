@@ -10,7 +10,7 @@ use Rattle.iceoryx2_world.specs.Orders.{hash_total}
 use Rattle.iceoryx2_world.specs.declared.world.Row.{Row}
 use Rattle.iceoryx2_world.specs.declared.world.Row.TheVariants as row
 use Rattle.iceoryx2_world.specs.World.{World, Segment, segment_of}
-use Rattle.iceoryx2_byte_form.specs.Form.{IsForm}
+use Rattle.iceoryx2_data.specs.Form.{IsForm}
 use Rattle.iceoryx2_table.specs.ServicesState.{HasBytes}
 use Rattle.std.specs.FinMap as map
 use Rattle.wulameron_view.specs.declared.services.Service.{Service}

@@ -11,7 +11,7 @@ ghost use Rattle.wulameron_view.specs.Services.{AreServices, AreServicesOf, IsSe
 ghost use Rattle.wulameron_view.specs.Services.{creation_of, holder_of, is_holder, members_of};
 ghost use Rattle.wulameron_view.specs.Services.{rank as rank_of, service_cmp};
 
-use iceoryx2_byte_form::bytes::{DecodeError, decode};
+use iceoryx2_data::bytes::{DecodeError, decode};
 use iceoryx2_description::description::{MessagingPattern, ServiceHash, StaticConfig};
 use iceoryx2_table::rows::{RowState, StoredRow};
 use iceoryx2_table::segments::StoredSegment;

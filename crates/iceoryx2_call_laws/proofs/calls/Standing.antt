@@ -1,8 +1,8 @@
 -- What a standing factory carries.
 use Rattle.std.proofs.Common.{◌≡◌, Some, refl, sym, ap, subst, ◌∙◌}
 use Rattle.iceoryx2_description.specs.Description.{Description}
-use Rattle.iceoryx2_byte_form.specs.Form as form
-use Rattle.iceoryx2_byte_form.proofs.Fields.{one_description}
+use Rattle.iceoryx2_data.specs.Form as form
+use Rattle.iceoryx2_data.proofs.Fields.{one_description}
 use Rattle.iceoryx2_world.specs.declared.world.Row.TheVariants as row
 use Rattle.iceoryx2_world.specs.World.{row_of, phase_of}
 use Rattle.iceoryx2_world.specs.Agreement.{IsSegmentOf}

@@ -3,7 +3,7 @@ use Rattle.std.proofs.Common.{◌≡◌, ℕ, false, List, Some, None, Result, O
 use Rattle.std.specs.Prelude.{IfOk}
 use Rattle.iceoryx2_description.specs.declared.description.ServiceHash.{ServiceHash}
 use Rattle.iceoryx2_description.specs.Description.{Description}
-use Rattle.iceoryx2_byte_form.specs.Form as form
+use Rattle.iceoryx2_data.specs.Form as form
 use Rattle.iceoryx2_world.specs.declared.world.Participant.TheVariants.{Node}
 use Rattle.iceoryx2_world.specs.World.{World, phase_of, segment_of, tag_of}
 use Rattle.iceoryx2_access.specs.Letter.{Letter}

@@ -2,17 +2,13 @@
 
 ghost use Rattle.std.specs.Prelude.{◌≡◌, ◌∷◌, []};
 ghost use Rattle.iceoryx2_rounds.specs.Verdict.{verdict, marked_clauses, span_is};
-ghost use Rattle.iceoryx2_builder_common.specs.Rows.{row_clauses};
+ghost use Rattle.iceoryx2_rounds.specs.Rows.{row_clauses};
 ghost use Rattle.std.specs.Option.{option_map};
 ghost use Rattle.iceoryx2_event_builder.specs.Event.{setting_rows, created_deadline, event_refusal};
 ghost use Rattle.iceoryx2_event_builder.specs.Event.{deadline_value as value_of};
 ghost use Rattle.iceoryx2_event_builder.specs.Builder.{fresh_demand, demand_with, demanded_deadline};
 
 use crate::event::setting::EventSetter;
-use iceoryx2_builder_common::zeros::raise_zero;
-use iceoryx2_builder_common::{
-    ask_for, create_error_of_refusal, open_error_of_refusal, settings_of, verdict_of_rows,
-};
 use iceoryx2_description::config;
 use iceoryx2_description::description::{MessagingPattern, StaticConfig};
 use iceoryx2_description::event::{self, Deadline};
@@ -24,6 +20,10 @@ use iceoryx2_rounds::open_or_create::OpenOrCreateRefusal;
 use iceoryx2_rounds::pattern::{CreateRefusal, OpenRefusal, Pattern};
 use iceoryx2_rounds::retries::Retries;
 use iceoryx2_rounds::verdict::{need_at_least, need_duration, need_event};
+use iceoryx2_rounds::zeros::raise_zero;
+use iceoryx2_rounds::{
+    ask_for, create_error_of_refusal, open_error_of_refusal, settings_of, verdict_of_rows,
+};
 use std::alloc::AllocError;
 
 /// Which settings a builder of events requires.

@@ -3,7 +3,7 @@
 use super::leaving::is_published;
 use super::{Reached, entry, from_key};
 use iceoryx2_attribute::attribute::AttributeSet;
-use iceoryx2_byte_form::bytes::{self, DecodeError};
+use iceoryx2_data::bytes::{self, DecodeError};
 use iceoryx2_description::description::{
     MessagingPattern, ServiceHash, ServiceName, ServiceNameError, StaticConfig,
 };

@@ -5,7 +5,7 @@
 
 ghost use Rattle.std.specs.Prelude.{◌≡◌, ◌<◌, ◌≤◌, ◌^◌, length, bytes_eq, IfOk, OnErr, IfSome, IsSome};
 ghost use Rattle.std.specs.Int.{w32, w64};
-ghost use Rattle.iceoryx2_byte_form.specs.PartReading.{number_at, bytes_at};
+ghost use Rattle.iceoryx2_data.specs.PartReading.{number_at, bytes_at};
 ghost use Rattle.iceoryx2_log.specs.declared.entry.Deed.TheVariants as deed;
 ghost use Rattle.iceoryx2_log.specs.Form.{sum_of as sum_at};
 ghost use Rattle.iceoryx2_log.specs.Reading.{IsPart, IsReadBy};

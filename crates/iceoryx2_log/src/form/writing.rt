@@ -2,7 +2,7 @@
 
 ghost use Rattle.std.specs.Prelude.{◌≡◌, ◌<◌, ◌^◌, ◌↔◌, ◌++◌, ◌+◌, Err, IfOk, OnOk, IsTrue, All, length};
 ghost use Rattle.iceoryx2_log.specs.declared.form.writing.EncodeError.TheVariants.{OutOfMemory};
-ghost use Rattle.iceoryx2_byte_form.specs.PartForm as part;
+ghost use Rattle.iceoryx2_data.specs.PartForm as part;
 ghost use Rattle.iceoryx2_log.specs.Form as form;
 
 use super::{HEADER_LENGTH, MAX_BODY_LENGTH, MIN_BODY_LENGTH, SUM_LENGTH};

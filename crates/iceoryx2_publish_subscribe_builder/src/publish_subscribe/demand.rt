@@ -2,14 +2,10 @@
 
 ghost use Rattle.std.specs.Prelude.{◌≡◌};
 ghost use Rattle.iceoryx2_rounds.specs.Verdict.{verdict};
-ghost use Rattle.iceoryx2_builder_common.specs.Rows.{row_clauses};
+ghost use Rattle.iceoryx2_rounds.specs.Rows.{row_clauses};
 ghost use Rattle.iceoryx2_publish_subscribe_builder.specs.PublishSubscribe.{publish_subscribe_refusal, setting_rows};
 ghost use Rattle.iceoryx2_publish_subscribe_builder.specs.Builder.{fresh_demand};
 
-use iceoryx2_builder_common::zeros::raise_zero;
-use iceoryx2_builder_common::{
-    create_error_of_refusal, open_error_of_refusal, settings_of, verdict_of_rows,
-};
 use iceoryx2_description::description::{MessagingPattern, StaticConfig};
 use iceoryx2_description::time::Time;
 use iceoryx2_description::{config, publish_subscribe};
@@ -22,6 +18,10 @@ use iceoryx2_rounds::open_or_create::OpenOrCreateRefusal;
 use iceoryx2_rounds::pattern::{CreateRefusal, OpenRefusal, Pattern};
 use iceoryx2_rounds::retries::Retries;
 use iceoryx2_rounds::verdict::{need_at_least, need_flag};
+use iceoryx2_rounds::zeros::raise_zero;
+use iceoryx2_rounds::{
+    create_error_of_refusal, open_error_of_refusal, settings_of, verdict_of_rows,
+};
 use iceoryx2_types::types::MessageTypeDetails;
 use std::alloc::AllocError;
 

@@ -4,7 +4,7 @@ ghost use Rattle.std.specs.Prelude.{◌≡◌, IfOk};
 ghost use Rattle.iceoryx2_request_response_builder.specs.Builder.{asked_with, messages_for, no_message_types};
 
 use crate::request_response::demand::{PreparedDemand, RequestResponseDemand};
-use iceoryx2_builder_common::requested::RequestedTypes;
+use iceoryx2_rounds::requested::RequestedTypes;
 use iceoryx2_types::types::ZeroCopySend;
 use iceoryx2_types::types::request_response::{RequestHeader, ResponseHeader};
 use std::alloc::{AllocError, Global};

@@ -19,6 +19,7 @@ use crate::holdings::{Holding, first_tag, first_ticket};
 use crate::recorder::Recorder;
 use crate::rows::RowState;
 use crate::services::Services;
+use finite_map::sorted::SortedVec;
 use iceoryx2_access::storage::{
     Existence, FetchError, LockError, MakeSegmentError, OpenSegmentError, PublishError, Release,
     ReleaseError, RemoveError, Tag, TagError,
@@ -27,7 +28,6 @@ use iceoryx2_description::description::{ServiceHash, StaticConfig};
 use iceoryx2_world::batches::Step;
 use iceoryx2_world::listing::Entry;
 use iceoryx2_world::world::{Participant, Phase, Ticket};
-use sorted_map::SortedVec;
 use std::alloc::{AllocError, Global};
 use std::marker::Model;
 
@@ -47,7 +47,7 @@ pub struct StoredWorld {
 
 impl Model for StoredWorld {
     ghost use Rattle.std.specs.Ordering.{nat_cmp};
-    ghost use Rattle.sorted_map.specs.Sorted.{map_of};
+    ghost use Rattle.finite_map.specs.Sorted.{map_of};
     ghost use Rattle.iceoryx2_world.specs.Orders.{tag_cmp};
     ghost use Rattle.iceoryx2_world.specs.World.{World};
     ghost use Rattle.iceoryx2_world.specs.Codes.{coded_world};

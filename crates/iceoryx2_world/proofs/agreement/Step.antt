@@ -6,7 +6,7 @@ use Rattle.iceoryx2_world.specs.declared.world.Phase.{Phase}
 use Rattle.iceoryx2_world.specs.declared.world.Row.{Row}
 use Rattle.iceoryx2_world.specs.declared.world.Row.TheVariants as row
 use Rattle.iceoryx2_world.specs.World.{Segment, begins, locked_number, is_last}
-use Rattle.iceoryx2_byte_form.specs.Form as form
+use Rattle.iceoryx2_data.specs.Form as form
 use Rattle.iceoryx2_world.specs.Acts.{Act, IsAct}
 use Rattle.iceoryx2_world.specs.Steps.{ServiceView, view_after}
 use Rattle.iceoryx2_world.specs.Agreement.{AgreesAt, LaterAt}

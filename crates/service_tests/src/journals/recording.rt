@@ -4,7 +4,7 @@ use iceoryx2_access::storage::{
     Existence, FetchError, LockError, MakeSegmentError, OpenSegmentError, PublishError, Release,
     ReleaseError, RemoveError, Service, Sha1Hasher, Storage, Tag, TagError,
 };
-use iceoryx2_byte_form::bytes::encode;
+use iceoryx2_data::bytes::encode;
 use iceoryx2_description::description::{ServiceHash, StaticConfig};
 use iceoryx2_log::entry::{Deed, Entry, FormBytes};
 use iceoryx2_table::table::{Act, Step};

@@ -7,7 +7,7 @@ use crate::journals::support::{
     Tally, assert_same, copies, count, draw, granted, journal_of, listed_anew, log_beside, push,
     reply_of,
 };
-use iceoryx2_commands::command::{Command, Reply};
+use iceoryx2_builder::command::{Command, Reply};
 use iceoryx2_description::config::Config;
 use iceoryx2_journal::journal::Journal;
 use iceoryx2_log::entry::Entry;

@@ -3,7 +3,7 @@
 
 use super::support::copies;
 use crate::support::{assert_same, granted, push, there};
-use iceoryx2_commands::command::Reply;
+use iceoryx2_builder::command::Reply;
 use iceoryx2_description::config::Config;
 use iceoryx2_journal::journal::Journal;
 use iceoryx2_log::call_log::CallLog;

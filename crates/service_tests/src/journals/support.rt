@@ -3,7 +3,7 @@
 use crate::journals::recording::Recording;
 pub use crate::support::{assert_same, draw, granted, push};
 use iceoryx2_access::storage::Service;
-use iceoryx2_commands::command::{Command, Reply};
+use iceoryx2_builder::command::{Command, Reply};
 use iceoryx2_journal::journal::Journal;
 use iceoryx2_log::entry::Entry;
 use iceoryx2_log::memory::{Batch, MemoryLog};

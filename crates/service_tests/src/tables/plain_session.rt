@@ -1,7 +1,7 @@
 //! Commands over a table of each body: over the one in sorted vectors and the one in chunks by the session itself,
 //! and over the plain one by places that are written from the terms of its commands.
 
-use iceoryx2_commands::command::{Command, Reply, SLOTS};
+use iceoryx2_builder::command::{Command, Reply, SLOTS};
 use iceoryx2_description::config::Config;
 use iceoryx2_large_table::local::ManyLocal;
 use iceoryx2_large_table::table::LargeTable;

@@ -3,7 +3,7 @@
 use crate::drawn::{Forms, drawn_batches, drawn_call, drawn_close};
 use crate::support::{assert_same, draw, granted};
 use crate::tables::plain_session::Commanded;
-use iceoryx2_commands::command::{Command, Reply};
+use iceoryx2_builder::command::{Command, Reply};
 use iceoryx2_large_table::local::ManyLocal;
 use iceoryx2_table::local::Local;
 use iceoryx2_world::listing::Entry;

@@ -1,6 +1,6 @@
 use Rattle.std.proofs.Common.{rules}
 use Rattle.std.proofs.lemmas.Fn.{always_returns_same}
-use Rattle.sorted_map.proofs.Edits.{searched}
+use Rattle.finite_map.proofs.Edits.{searched}
 use Rattle.finite_map.proofs.chunk.search.Goals as goal
 
 pub returns : goal.returns

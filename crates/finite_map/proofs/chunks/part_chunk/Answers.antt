@@ -1,6 +1,6 @@
 use Rattle.std.proofs.Common.{◌≡◌, ◌+◌, get_or, set, List, sym, ap, ◌∙◌, add-one}
 use Rattle.std.specs.List.{insert}
-use Rattle.sorted_map.specs.Sorted.{Sorted}
+use Rattle.finite_map.specs.Sorted.{Sorted}
 use Rattle.finite_map.proofs.Shapes.{parted, parted-before, halves-flat, halves-shaped, halves-upper, halves-open}
 use Rattle.finite_map.proofs.chunks.part_chunk.Goals as goal
 

@@ -1,6 +1,6 @@
 use Rattle.std.proofs.Common.{rules, ◌≡◌, ◌<◌, List, length, get_or, sym, ap, subst, ◌∙◌}
 use Rattle.std.proofs.lemmas.List.{nil_from_length, get_or-set_same}
-use Rattle.sorted_map.specs.Sorted.{Sorted}
+use Rattle.finite_map.specs.Sorted.{Sorted}
 use Rattle.finite_map.specs.Chunks.{flat, IsShaped}
 use Rattle.finite_map.proofs.Flats.{there, taken_out, taken_value, without_empty}
 use Rattle.finite_map.proofs.Shapes.{shaped-remove}

@@ -1,5 +1,5 @@
 use Rattle.std.proofs.Common.{refl, sym, ap, subst}
-use Rattle.iceoryx2_byte_form.specs.Form.{IsForm}
+use Rattle.iceoryx2_data.specs.Form.{IsForm}
 use Rattle.std.proofs.Common.{◌≡◌, Ok}
 use Rattle.iceoryx2_access.specs.Letter as letter
 use Rattle.iceoryx2_log.specs.declared.entry.Deed.TheVariants as deed

@@ -2,9 +2,9 @@ use Rattle.std.proofs.Common.{◌≡◌, ℕ, List, Option, Result, sym, subst}
 use Rattle.iceoryx2_access.specs.Letter.{Letter}
 use Rattle.iceoryx2_access.specs.Registered.{Registered}
 use Rattle.iceoryx2_description.specs.declared.config.Config.{Config}
-use Rattle.iceoryx2_commands.specs.declared.command.Call.{Call}
+use Rattle.iceoryx2_builder.specs.declared.command.Call.{Call}
 use Rattle.iceoryx2_errors.specs.declared.refusal.Refusal.{Refusal}
-use Rattle.iceoryx2_commands.specs.declared.command.Settings.{Settings}
+use Rattle.iceoryx2_builder.specs.declared.command.Settings.{Settings}
 use Rattle.iceoryx2_event_builder.specs.Builder as event
 use Rattle.iceoryx2_event_builder.specs.Builder.{EventBuilderState}
 use Rattle.iceoryx2_publish_subscribe_builder.specs.Builder as publish_subscribe

@@ -1,5 +1,5 @@
 use Rattle.std.proofs.Common.{sym, ap, ◌∙◌}
-use Rattle.sorted_map.specs.Sorted.{map_of}
+use Rattle.finite_map.specs.Sorted.{map_of}
 use Rattle.iceoryx2_world.specs.declared.world.Phase.{Phase}
 use Rattle.iceoryx2_world.specs.Orders.{place_cmp, place_exact}
 use Rattle.iceoryx2_world.specs.World.{set_to, unless_idle}

@@ -1,5 +1,5 @@
 use Rattle.std.proofs.Common.{◌∷◌, ℕ, List, Err, ap, subst, sym, ◌∙◌, rules}
-use Rattle.iceoryx2_commands.specs.Commands.{slot_count}
+use Rattle.iceoryx2_builder.specs.Commands.{slot_count}
 use Rattle.iceoryx2_description.specs.Names.{IsName}
 use Rattle.negotiate_lines.specs.CallTerms.{TakesTerms, no_arguments}
 use Rattle.negotiate_lines.specs.Commands.{IsNamedCallOf, admitted_of}

@@ -1,5 +1,5 @@
 use Rattle.std.proofs.Common.{◌∷◌, codes, refl, sym, ap, ◌∙◌}
-use Rattle.iceoryx2_commands.specs.Commands.{slot_count}
+use Rattle.iceoryx2_builder.specs.Commands.{slot_count}
 use Rattle.negotiate_lines.specs.Commands.{IsCommandOf}
 use Rattle.negotiate_lines.specs.Terms.{IsNumber, terms_of}
 use Rattle.negotiate_lines.specs.Wrongs.{WrongSlot, WrongTerms, at_slot, behind_slot}

@@ -1,5 +1,5 @@
 use Rattle.std.proofs.Common.{◌≡◌, ℕ, List, [], refl}
-use Rattle.iceoryx2_commands.specs.Commands.{slot_count}
+use Rattle.iceoryx2_builder.specs.Commands.{slot_count}
 use Rattle.negotiate_lines.specs.declared.question.Question.TheVariants as question
 use Rattle.negotiate_lines.specs.Questions.{Asks, IsOnly, IsOnlyOrNone, any_number, line, node_or_none, nothing, slot}
 use Rattle.negotiate_lines.specs.Terms.{IsNumber, terms_of}

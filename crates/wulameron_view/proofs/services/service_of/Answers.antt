@@ -1,4 +1,4 @@
-use Rattle.iceoryx2_byte_form.specs.Form.{IsForm}
+use Rattle.iceoryx2_data.specs.Form.{IsForm}
 use Rattle.wulameron_view.proofs.Listed.{row_service}
 use Rattle.wulameron_view.proofs.services.service_of.Goals as goal
 

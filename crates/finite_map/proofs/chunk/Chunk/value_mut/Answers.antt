@@ -1,6 +1,6 @@
 use Rattle.std.proofs.Common.{rules, sym, ap, refl, ◌≡◌, ◌∙◌, ℕ, ◌<◌, List, length, get_or, set}
 use Rattle.std.proofs.lemmas.List.{get_or_default}
-use Rattle.sorted_map.specs.Sorted.{Sorted}
+use Rattle.finite_map.specs.Sorted.{Sorted}
 use Rattle.finite_map.specs.Chunks.{with_value_at}
 use Rattle.finite_map.proofs.Flats.{with_value_is}
 use Rattle.finite_map.proofs.chunk.Chunk.value_mut.Goals as goal

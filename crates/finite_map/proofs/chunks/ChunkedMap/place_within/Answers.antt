@@ -1,6 +1,6 @@
 use Rattle.std.proofs.Common.{rules, ◌≡◌, ◌<◌, ◌≤◌, true, length, get_or, subst}
 use Rattle.std.specs.FinMap.{is_sorted}
-use Rattle.sorted_map.specs.Sorted.{Sorted}
+use Rattle.finite_map.specs.Sorted.{Sorted}
 use Rattle.finite_map.proofs.Flats.{chunk_is}
 use Rattle.finite_map.proofs.Spots.{sorted_chunk, stands_within, stands_past}
 use Rattle.finite_map.proofs.chunks.ChunkedMap.place_within.Goals as goal

@@ -1,5 +1,5 @@
 use Rattle.std.proofs.Common.{rules, ◌≡◌, ◌<◌, length, get_or, sym, subst}
-use Rattle.sorted_map.specs.Sorted.{Sorted}
+use Rattle.finite_map.specs.Sorted.{Sorted}
 use Rattle.finite_map.proofs.Flats.{chunk_is}
 use Rattle.finite_map.proofs.Walks.{step_on}
 use Rattle.finite_map.proofs.chunks.ChunkedMap.step.Goals as goal

@@ -1,5 +1,5 @@
 use Rattle.std.proofs.Common.{rules, ◌≡◌, get_or, sym, subst, ap, ◌∙◌}
-use Rattle.sorted_map.specs.Sorted.{Sorted}
+use Rattle.finite_map.specs.Sorted.{Sorted}
 use Rattle.finite_map.specs.Chunks.{StandsIn}
 use Rattle.finite_map.proofs.Flats.{chunk_is, there}
 use Rattle.finite_map.proofs.Stored.{got, got_none}

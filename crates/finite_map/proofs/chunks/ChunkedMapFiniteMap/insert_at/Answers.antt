@@ -1,5 +1,5 @@
 use Rattle.std.proofs.Common.{rules, arith, ◌≡◌, ◌<◌, length, get_or, subst}
-use Rattle.sorted_map.specs.Sorted.{Sorted}
+use Rattle.finite_map.specs.Sorted.{Sorted}
 use Rattle.finite_map.specs.Chunks.{StandsIn}
 use Rattle.finite_map.proofs.Flats.{chunk_is, there_with_room}
 use Rattle.finite_map.proofs.Stored.{written_kept, written_map, added_kept, added_map, got_none}

@@ -1,5 +1,5 @@
 use Rattle.std.proofs.Common.{sym, ◌∙◌}
-use Rattle.sorted_map.proofs.Maps.{len_is}
+use Rattle.finite_map.proofs.Maps.{len_is}
 use Rattle.finite_map.proofs.chunks.ChunkedMapFiniteMap.len.Goals as goal
 
 pub returns : goal.returns

@@ -1,6 +1,6 @@
 use Rattle.std.proofs.Common.{ap, ◌∙◌, List}
-use Rattle.sorted_map.specs.Sorted.{Sorted}
-use Rattle.sorted_map.proofs.Maps.{from_nil}
+use Rattle.finite_map.specs.Sorted.{Sorted}
+use Rattle.finite_map.proofs.Maps.{from_nil}
 use Rattle.finite_map.specs.Chunks.{chunked}
 use Rattle.finite_map.proofs.chunks.ChunkedMapFiniteMap.new.Goals as goal
 

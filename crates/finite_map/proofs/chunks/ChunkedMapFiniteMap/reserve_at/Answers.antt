@@ -1,6 +1,6 @@
 use Rattle.std.proofs.Common.{refl, subst}
 use Rattle.std.specs.Prelude.{Result, Ok, Err, OnErr}
-use Rattle.sorted_map.proofs.Ranks.{none_at, some_at}
+use Rattle.finite_map.proofs.Ranks.{none_at, some_at}
 use Rattle.finite_map.specs.Chunks.{StandsIn}
 use Rattle.finite_map.proofs.chunks.ChunkedMapFiniteMap.reserve_at.Goals as goal
 

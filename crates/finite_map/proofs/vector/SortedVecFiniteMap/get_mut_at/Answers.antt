@@ -1,6 +1,6 @@
 use Rattle.std.proofs.Common.{refl, Option, Some, None}
 use Rattle.std.specs.Prelude.{OnSome}
-use Rattle.sorted_map.proofs.Maps.{map_of_written}
+use Rattle.finite_map.proofs.Maps.{map_of_written}
 use Rattle.finite_map.proofs.vector.SortedVecFiniteMap.get_mut_at.Goals as goal
 
 always : {T P : Type 0} (o : Option T) → P → OnSome o P

@@ -1,5 +1,5 @@
 use Rattle.std.proofs.Common.{refl}
-use Rattle.iceoryx2_builder_common.proofs.Granted.{created_of}
+use Rattle.iceoryx2_rounds.proofs.JoinedGrants.{created_of}
 use Rattle.iceoryx2_rounds.specs.Patterns.{is_events}
 use Rattle.iceoryx2_event_builder.proofs.event.Builder.create_with_attributes.Goals as goal
 

@@ -1,4 +1,4 @@
-use Rattle.iceoryx2_builder_common.proofs.Granted.{opened_of}
+use Rattle.iceoryx2_rounds.proofs.JoinedGrants.{opened_of}
 use Rattle.iceoryx2_rounds.specs.Patterns.{is_events}
 use Rattle.iceoryx2_event_builder.proofs.Granted.{what_fits}
 use Rattle.iceoryx2_event_builder.proofs.event.Builder.open_with_attributes.Goals as goal

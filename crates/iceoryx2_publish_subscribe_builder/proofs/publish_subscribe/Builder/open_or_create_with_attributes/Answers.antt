@@ -1,5 +1,5 @@
 use Rattle.std.proofs.Common.{refl}
-use Rattle.iceoryx2_builder_common.proofs.Granted.{with_types, without_types}
+use Rattle.iceoryx2_rounds.proofs.JoinedGrants.{with_types, without_types}
 use Rattle.iceoryx2_rounds.specs.Patterns.{is_publish_subscribe}
 use Rattle.iceoryx2_rounds.proofs.Granted.{joined_carries, carried_of}
 use Rattle.iceoryx2_publish_subscribe_builder.proofs.Granted.{what_fits}

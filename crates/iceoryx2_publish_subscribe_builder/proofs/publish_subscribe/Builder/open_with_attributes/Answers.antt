@@ -1,4 +1,4 @@
-use Rattle.iceoryx2_builder_common.proofs.Granted.{opened_of, with_types, without_types}
+use Rattle.iceoryx2_rounds.proofs.JoinedGrants.{opened_of, with_types, without_types}
 use Rattle.iceoryx2_rounds.specs.Patterns.{is_publish_subscribe}
 use Rattle.iceoryx2_publish_subscribe_builder.proofs.Granted.{what_fits}
 use Rattle.iceoryx2_publish_subscribe_builder.proofs.publish_subscribe.Builder.open_with_attributes.Goals as goal

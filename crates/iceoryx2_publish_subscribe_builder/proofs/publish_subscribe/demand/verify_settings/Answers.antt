@@ -1,6 +1,6 @@
 use Rattle.std.specs.Prelude.{map}
-use Rattle.iceoryx2_builder_common.specs.Rows.{tested}
-use Rattle.iceoryx2_builder_common.proofs.Rows.{by_row_is}
+use Rattle.iceoryx2_rounds.specs.Rows.{tested}
+use Rattle.iceoryx2_rounds.proofs.Rows.{by_row_is}
 use Rattle.iceoryx2_publish_subscribe_builder.specs.PublishSubscribe.{setting_rows}
 use Rattle.iceoryx2_publish_subscribe_builder.proofs.publish_subscribe.demand.verify_settings.Goals as goal
 

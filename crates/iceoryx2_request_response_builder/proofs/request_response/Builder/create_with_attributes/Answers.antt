@@ -1,5 +1,5 @@
 use Rattle.std.proofs.Common.{refl}
-use Rattle.iceoryx2_builder_common.proofs.Granted.{created_of, with_types, without_types}
+use Rattle.iceoryx2_rounds.proofs.JoinedGrants.{created_of, with_types, without_types}
 use Rattle.iceoryx2_rounds.specs.Patterns.{is_request_response}
 use Rattle.iceoryx2_request_response_builder.proofs.request_response.Builder.create_with_attributes.Goals as goal
 

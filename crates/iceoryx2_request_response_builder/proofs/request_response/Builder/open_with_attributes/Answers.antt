@@ -1,4 +1,4 @@
-use Rattle.iceoryx2_builder_common.proofs.Granted.{opened_of, with_types, without_types}
+use Rattle.iceoryx2_rounds.proofs.JoinedGrants.{opened_of, with_types, without_types}
 use Rattle.iceoryx2_rounds.specs.Patterns.{is_request_response}
 use Rattle.iceoryx2_request_response_builder.proofs.Granted.{what_fits}
 use Rattle.iceoryx2_request_response_builder.proofs.request_response.Builder.open_with_attributes.Goals as goal

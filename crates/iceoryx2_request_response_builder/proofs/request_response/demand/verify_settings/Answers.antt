@@ -1,6 +1,6 @@
 use Rattle.std.specs.Prelude.{map}
-use Rattle.iceoryx2_builder_common.specs.Rows.{tested}
-use Rattle.iceoryx2_builder_common.proofs.Rows.{by_row_is}
+use Rattle.iceoryx2_rounds.specs.Rows.{tested}
+use Rattle.iceoryx2_rounds.proofs.Rows.{by_row_is}
 use Rattle.iceoryx2_request_response_builder.specs.RequestResponse.{setting_rows}
 use Rattle.iceoryx2_request_response_builder.proofs.request_response.demand.verify_settings.Goals as goal
 

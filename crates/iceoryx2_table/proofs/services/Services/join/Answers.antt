@@ -1,5 +1,5 @@
 use Rattle.std.proofs.Common.{inl, refl, sym}
-use Rattle.sorted_map.proofs.Maps.{map_of_written}
+use Rattle.finite_map.proofs.Maps.{map_of_written}
 use Rattle.iceoryx2_world.specs.Orders.{hash_cmp}
 use Rattle.iceoryx2_table.proofs.Changes.{joins_again, joins_nothing, join_recorded, join_unrecorded, join_starves}
 use Rattle.iceoryx2_table.proofs.services.Services.join.Goals as goal

@@ -1,5 +1,5 @@
 use Rattle.std.proofs.Common.{arith, inl, inr, refl, sym}
-use Rattle.sorted_map.proofs.Maps.{map_of_written}
+use Rattle.finite_map.proofs.Maps.{map_of_written}
 use Rattle.iceoryx2_world.specs.Orders.{hash_cmp}
 use Rattle.iceoryx2_table.proofs.Changes.{found_again, leaves_one, leaves_none, leaves_nothing, leaves, leaves_last}
 use Rattle.iceoryx2_table.proofs.services.Services.leave.Goals as goal

@@ -1,6 +1,6 @@
 use Rattle.std.proofs.Common.{List, sym, subst, ◌∙◌}
 use Rattle.std.proofs.lemmas.Result.{IfOk-weaker}
-use Rattle.sorted_map.specs.Sorted.{map_of}
+use Rattle.finite_map.specs.Sorted.{map_of}
 use Rattle.iceoryx2_world.specs.declared.listing.Entry.{Entry}
 use Rattle.iceoryx2_world.specs.Orders.{hash_cmp}
 use Rattle.iceoryx2_world.specs.Listing.{ListsAll}

@@ -1,6 +1,6 @@
 use Rattle.std.proofs.Common.{inr, refl, sym, ap, ◌∙◌}
 use Rattle.std.specs.FinMap as map
-use Rattle.sorted_map.specs.Sorted.{map_of}
+use Rattle.finite_map.specs.Sorted.{map_of}
 use Rattle.iceoryx2_world.specs.Orders.{hash_cmp}
 use Rattle.iceoryx2_table.proofs.Changes.{lock_starves, locks}
 use Rattle.iceoryx2_table.proofs.services.Services.lock.Goals as goal

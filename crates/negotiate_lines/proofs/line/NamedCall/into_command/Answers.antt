@@ -1,5 +1,5 @@
 use Rattle.std.proofs.Common.{refl, sym}
-use Rattle.iceoryx2_commands.specs.declared.command.Call.{Call}
+use Rattle.iceoryx2_builder.specs.declared.command.Call.{Call}
 use Rattle.negotiate_lines.proofs.line.NamedCall.into_command.Goals as goal
 
 pub returns : goal.returns

@@ -1,7 +1,7 @@
 use Rattle.std.proofs.Common.{string_bytes, sym, subst}
-use Rattle.iceoryx2_commands.specs.declared.command.Command.{Command}
-use Rattle.iceoryx2_commands.specs.declared.command.Command.TheVariants as command
-use Rattle.iceoryx2_commands.specs.declared.command.Reply as declared-reply
+use Rattle.iceoryx2_builder.specs.declared.command.Command.{Command}
+use Rattle.iceoryx2_builder.specs.declared.command.Command.TheVariants as command
+use Rattle.iceoryx2_builder.specs.declared.command.Reply as declared-reply
 use Rattle.iceoryx2_session.specs.SessionStates.{own_state}
 use Rattle.wulameron_serve.specs.Shared.{AnswersFor, Replies, closed, listed}
 use Rattle.wulameron_serve.specs.Views.{writes_in}

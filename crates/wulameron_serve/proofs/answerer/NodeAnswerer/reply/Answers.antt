@@ -1,5 +1,5 @@
 use Rattle.std.proofs.Common.{string_bytes}
-use Rattle.iceoryx2_commands.specs.declared.command.Reply as declared-reply
+use Rattle.iceoryx2_builder.specs.declared.command.Reply as declared-reply
 use Rattle.iceoryx2_session.specs.SessionStates.{own_state}
 use Rattle.wulameron_serve.specs.Shared.{Replies}
 use Rattle.wulameron_serve.specs.Views.{writes_in}

@@ -1,6 +1,6 @@
 use Rattle.std.proofs.Common.{sym, subst}
 use Rattle.std.specs.Ordering.{nat_cmp}
-use Rattle.sorted_map.specs.Sorted.{map_of}
+use Rattle.finite_map.specs.Sorted.{map_of}
 use Rattle.iceoryx2_world.specs.Orders.{tag_cmp}
 use Rattle.iceoryx2_world.specs.World.{World}
 use Rattle.iceoryx2_table.specs.ServicesState.{world_with}

@@ -1,4 +1,0 @@
-pub mod Raised
-pub mod Rows
-pub mod Granted
-pub mod Misfits

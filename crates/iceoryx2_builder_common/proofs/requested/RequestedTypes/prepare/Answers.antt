@@ -1,5 +1,0 @@
-use Rattle.std.proofs.Common.{rules}
-use Rattle.iceoryx2_builder_common.proofs.requested.RequestedTypes.prepare.Goals as goal
-
-pub returns : goal.returns
-returns c = search rules

@@ -1,5 +1,0 @@
-pub mod Facts
-pub mod Zeros
-pub mod Requested
-pub mod Rows
-pub mod Builders

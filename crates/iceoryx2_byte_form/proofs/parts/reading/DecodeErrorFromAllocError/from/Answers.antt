@@ -1,5 +1,0 @@
-use Rattle.std.proofs.Common.{rules}
-use Rattle.iceoryx2_byte_form.proofs.parts.reading.DecodeErrorFromAllocError.from.Goals as goal
-
-pub returns : goal.returns
-returns c = search rules

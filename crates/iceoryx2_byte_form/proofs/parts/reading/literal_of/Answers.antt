@@ -1,7 +1,0 @@
-use Rattle.std.proofs.Common.{rules}
-use Rattle.iceoryx2_byte_form.specs.PartReading.{literal_at}
-use Rattle.iceoryx2_byte_form.proofs.parts.reading.literal_of.Goals as goal
-
-pub returns : goal.returns
-unfolding literal_at
-returns c = search rules

@@ -1,5 +1,0 @@
-use Rattle.std.proofs.Common.{rules}
-use Rattle.iceoryx2_byte_form.proofs.parts.writing.put_number.Goals as goal
-
-pub returns : goal.returns
-returns c = search rules

@@ -1,0 +1,69 @@
+//! What a builder asks of a message's types, whatever its pattern.
+
+ghost use Rattle.std.specs.Prelude.{◌≡◌, IfOk};
+ghost use Rattle.iceoryx2_rounds.specs.Requested.{no_types, requested_message};
+
+use iceoryx2_types::types::{Alignment, MessageTypeDetails, TypeDetail, ZeroCopySend};
+use std::alloc::{AllocError, Global};
+
+/// What is given in place of a message's own types, and how far its payload is to be aligned.
+#[derive(Debug, Drop, PartialEq, Eq)]
+pub struct RequestedTypes {
+    /// In place of the user header's own type.
+    pub user_header: Option<TypeDetail>,
+    /// In place of the payload's own type.
+    pub payload: Option<TypeDetail>,
+    /// How far the payload is aligned at least, in bytes.
+    pub alignment: Option<Alignment>,
+}
+
+impl Clone for RequestedTypes {
+    ghost use Rattle.std.specs.Prelude.{◌≡◌};
+
+    ghost is_clone = { λ types copy. copy ≡ types };
+
+    /// `AllocError` where there was no memory for the names of types.
+    fn clone(&self) -> Result<RequestedTypes, AllocError> {
+        Ok(RequestedTypes {
+            user_header: copy_of(&self.user_header)?,
+            payload: copy_of(&self.payload)?,
+            alignment: self.alignment,
+        })
+    }
+}
+
+/// A copy of what stands in place of a type, if something does. `AllocError` where there was no memory
+/// for its name.
+fn copy_of(told: &Option<TypeDetail>) -> Result<Option<TypeDetail>, AllocError>
+    ensures { IfOk result (λ copy. copy ≡ told.now) }
+{
+    match told {
+        Some(detail) => Ok(Some(detail.clone()?)),
+        None => Ok(None),
+    }
+}
+
+impl RequestedTypes {
+    /// Each type is the message's own, and aligned as it is.
+    pub fn none() -> RequestedTypes
+        ensures { result ≡ no_types }
+    {
+        RequestedTypes {
+            user_header: None,
+            payload: None,
+            alignment: None,
+        }
+    }
+
+    /// The types of a message with this header, this payload and this user header. `AllocError`
+    /// where there was no memory for their names.
+    pub fn prepare<H: ZeroCopySend, P: ZeroCopySend, U: ZeroCopySend>(
+        self,
+        alloc: Global,
+    ) -> Result<MessageTypeDetails, AllocError>
+        ensures { IfOk result (λ message. message ≡ requested_message H.detail P.detail U.detail self) }
+    {
+        let own = MessageTypeDetails::from::<H, U, P>(alloc, P::variant())?;
+        Ok(own.with_overrides(self.user_header, self.payload, self.alignment))
+    }
+}

@@ -1,0 +1,11 @@
+//! Settings that a create raises.
+
+ghost use Rattle.std.specs.Prelude.{◌≡◌};
+ghost use Rattle.iceoryx2_rounds.specs.Zeros.{at_least_one};
+
+/// Zero becomes one.
+pub fn raise_zero(value: u64) -> u64
+    ensures { result ≡ at_least_one value }
+{
+    if value == 0 { 1 } else { value }
+}

@@ -1,2 +1,0 @@
--- What names, keys, values and types have in common.
-pub mod Texts

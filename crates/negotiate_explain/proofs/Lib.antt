@@ -1,4 +1,0 @@
-pub mod Asked
-pub mod Found
-pub mod Lines
-pub mod Parts

@@ -1,8 +1,0 @@
-use Rattle.std.proofs.Common.{◌≡◌, ◌++◌, drop, string_bytes}
-use Rattle.negotiate_explain.specs.Accesses.{entry_lines}
-use Rattle.negotiate_explain.proofs.accesses.describe_from.Given as goal
-
-abbrev pub invariant-loop-index : goal.invariant-loop-index
-invariant-loop-index g l =
-    string_bytes l.text ++ entry_lines (drop l.index l.traced.entries)
-    ≡ string_bytes l.fn.text ++ entry_lines (drop l.first l.traced.entries)

@@ -1,6 +1,0 @@
-use Rattle.std.proofs.Common.{All, None, take}
-use Rattle.negotiate_explain.specs.Standing.{IsFoundAt}
-use Rattle.negotiate_explain.proofs.standing.service_of.Given as goal
-
-abbrev pub invariant-loop-entry : goal.invariant-loop-entry
-invariant-loop-entry l = All (λ e. IsFoundAt l.call e None) (take l.entry-index l.entries)

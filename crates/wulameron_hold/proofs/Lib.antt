@@ -1,4 +1,0 @@
-pub mod Escaped
-pub mod Factories
-pub mod LineEnds
-pub mod Told

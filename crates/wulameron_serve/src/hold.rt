@@ -1,0 +1,367 @@
+//! The command that makes one call over the log of a place, and holds what it gives.
+
+ghost use Rattle.std.specs.Prelude.{◌≡◌};
+ghost use Rattle.wulameron_serve.specs.Holding.{end_status};
+
+use crate::answerer::{NodeAnswerer, call_of};
+use crate::dead::clean_dead;
+use crate::holding::{HoldError, call_line, hold_call, status_of_hold};
+use crate::refused::{Offer, offer_to, tell_refusal};
+use crate::view::Viewed;
+use iceoryx2_builder::command::Call;
+use iceoryx2_description::config::Config;
+use iceoryx2_journal::journal::Journal;
+use iceoryx2_log::call_log::SpansCalls;
+use iceoryx2_monitoring::state::NodeStatus;
+use iceoryx2_session::resuming::{Renewing, Resuming};
+use iceoryx2_session::session::Session;
+use iceoryx2_session::world_storage::WorldStorage;
+use negotiate_lines::leaf::Form;
+use negotiate_lines::line::{Line, parse_in};
+use negotiate_lines::vocabulary::Kind;
+use negotiate_lines::wrong::Wrong;
+use negotiate_lines::wrong_text::wrong_text;
+use negotiate_serve::ending::{DONE, FAULT, NOT_A_COMMAND, ServeError};
+use negotiate_serve::output::write_out;
+use negotiate_serve::report::report_failure;
+use percent_encoding::{DecodeError, percent_decode};
+use std::alloc::{AllocError, Global};
+use std::borrow::CowStr;
+use std::fs::File;
+use std::io::{Read, Write};
+use std::random::RandomSource;
+use std::rt::Files;
+use std::time::Clock;
+use wulameron_arguments::asked::Hold;
+use wulameron_place::dead::{DeadNodes, PlaceNodes};
+use wulameron_place::opening::{claim, open, states};
+use wulameron_place::reports::{Reports, STAYS};
+use wulameron_place::trouble::{Refusing, Trouble, Troubled};
+use wulameron_view::viewing::report_look;
+
+const NOT_MADE: &str = "no call was made; start the program again";
+
+/// Makes a call over the log of a place, which is made where there is none, prints what was agreed, and holds the factory
+/// until the input ends. The node is claimed as long. Gives the status with which the program ends: 0; 1 where the call
+/// is refused; 2 where the words are no call, and then nothing is claimed or made; or 3 after a failure. The writer of
+/// errors has a line of these, and of a refusal behind it what the call required and what the service offers.
+pub fn hold<
+    F: Files<File = File> + Clock + RandomSource + AllocGlobal + Drop,
+    R: Read + Drop,
+    W: Write,
+    E: Write,
+>(rt: F, hold: &Hold<'_>, input: R, output: &mut W, errors: &mut E) -> u8 {
+    if let Some(status) = refuse_words(rt.alloc(), hold, errors) {
+        return status;
+    }
+    let mut reports = Reports::new(rt.alloc(), hold.place.at, errors);
+    let Some(claim) = claim(&rt, hold.place, hold.node, &mut reports) else {
+        return FAULT;
+    };
+    let status = hold_as(&rt, claim.node(), hold, input, output, &mut reports);
+    drop(claim);
+    status
+}
+
+/// The status of a program that had no memory, of which the writer of errors has a line.
+fn no_memory<E: Write>(errors: &mut E) -> u8
+    ensures { result ≡ 3 }
+{
+    let _ = report_failure("wulameron", ServeError::OutOfMemory, errors);
+    FAULT
+}
+
+/// The status where the words are no call, or there is no memory, of which the writer of errors has a line.
+fn refuse_words<E: Write>(alloc: Global, hold: &Hold<'_>, errors: &mut E) -> Option<u8> {
+    let Ok(line) = call_line(alloc, 0, hold) else {
+        return Some(no_memory(errors));
+    };
+    match parse_in(alloc, Form::Escaped, line.as_bytes()) {
+        Ok(Line::NotACommand(wrong)) => {
+            let _ = report_words(alloc, wrong, errors);
+            Some(NOT_A_COMMAND)
+        }
+        Ok(_) => None,
+        Err(_) => Some(no_memory(errors)),
+    }
+}
+
+/// Writes what is wrong with the words of a call.
+fn report_words<E: Write>(
+    alloc: Global,
+    wrong: Wrong<'_>,
+    errors: &mut E,
+) -> Result<(), ServeError> {
+    match words_line(alloc, wrong) {
+        Ok(line) => write_out(line.as_bytes(), errors),
+        Err(_) => Err(ServeError::OutOfMemory),
+    }
+}
+
+/// The line of what is wrong with the words of a call, which are told as they were given.
+fn words_line(alloc: Global, wrong: Wrong<'_>) -> Result<String, AllocError> {
+    let (first, second) = terms_in(wrong);
+    let first = given(alloc, first)?;
+    let second = given(alloc, second)?;
+    let told = wrong_text(alloc, with_terms(wrong, &first, &second))?;
+    let hint = hint(wrong);
+    format!(in alloc; "wulameron: {told}{hint}\n")
+}
+
+/// What is told besides of a word that is wrong.
+fn hint(wrong: Wrong<'_>) -> &'static str {
+    match wrong {
+        Wrong::Value(_, _, Kind::Type) => {
+            "; size and alignment are bytes, and the alignment is a power of two"
+        }
+        _ => "",
+    }
+}
+
+/// A word of a call, or a part of one, as it was given.
+fn given<'a>(alloc: Global, term: &'a str) -> Result<CowStr<'a>, AllocError> {
+    if term == "%" {
+        return Ok(CowStr::Borrowed(""));
+    }
+    match percent_decode(term.as_bytes()).decode_utf8(alloc) {
+        Ok(text) => Ok(text),
+        Err(DecodeError::OutOfMemory) => Err(AllocError),
+        Err(_) => Ok(CowStr::Borrowed(term)),
+    }
+}
+
+/// The words, or parts of them, of which something is wrong: at most two.
+fn terms_in<'a>(wrong: Wrong<'a>) -> (&'a str, &'a str) {
+    match wrong {
+        Wrong::NameLength(term)
+        | Wrong::NoEqualsSign(term)
+        | Wrong::NoTime(term)
+        | Wrong::NoColon(term)
+        | Wrong::KeyLength(term)
+        | Wrong::ValueLength(term)
+        | Wrong::TooManyKeys(term) => (term, ""),
+        Wrong::NoSuchSetting {
+            name,
+            pattern: _,
+            settings: _,
+            admitted: _,
+        } => (name, ""),
+        Wrong::Value(name, value, _) => (name, value),
+        Wrong::TooManyPairs(key, value) => (key, value),
+        _ => ("", ""),
+    }
+}
+
+/// The same of these words in place of its own.
+fn with_terms<'a>(wrong: Wrong<'a>, first: &'a str, second: &'a str) -> Wrong<'a> {
+    match wrong {
+        Wrong::NameLength(_) => Wrong::NameLength(first),
+        Wrong::NoEqualsSign(_) => Wrong::NoEqualsSign(first),
+        Wrong::NoTime(_) => Wrong::NoTime(first),
+        Wrong::NoColon(_) => Wrong::NoColon(first),
+        Wrong::KeyLength(_) => Wrong::KeyLength(first),
+        Wrong::ValueLength(_) => Wrong::ValueLength(first),
+        Wrong::TooManyKeys(_) => Wrong::TooManyKeys(first),
+        Wrong::NoSuchSetting {
+            name: _,
+            pattern,
+            settings,
+            admitted,
+        } => Wrong::NoSuchSetting {
+            name: first,
+            pattern,
+            settings,
+            admitted,
+        },
+        Wrong::Value(_, _, kind) => Wrong::Value(first, second, kind),
+        Wrong::TooManyPairs(_, _) => Wrong::TooManyPairs(first, second),
+        _ => wrong,
+    }
+}
+
+/// The call of these words for a node. They are a call, so where there is none there is no memory.
+fn held_call(alloc: Global, node: u64, hold: &Hold<'_>) -> Option<Call> {
+    match call_line(alloc, node, hold) {
+        Ok(line) => call_of(alloc, Form::Escaped, line.as_bytes(), node),
+        Err(_) => None,
+    }
+}
+
+/// Makes the call for a node that is claimed, and holds its factory until the input ends. Before the call what dead
+/// nodes have is given back.
+fn hold_as<
+    F: Files<File = File> + Clock + RandomSource + AllocGlobal,
+    R: Read + Drop,
+    W: Write,
+    E: Write,
+>(
+    rt: &F,
+    node: u64,
+    hold: &Hold<'_>,
+    input: R,
+    output: &mut W,
+    reports: &mut Reports<'_, E>,
+) -> u8 {
+    let alloc = rt.alloc();
+    let place = hold.place;
+    let Some(call) = held_call(alloc, node, hold) else {
+        return reports.fail(ServeError::OutOfMemory);
+    };
+    let Some(log) = open(rt, place, reports) else {
+        return FAULT;
+    };
+    let Some(states) = states(rt, place, reports) else {
+        return FAULT;
+    };
+    match log.for_node(node).start(alloc, reports) {
+        Err(halt) => reports.halt(halt),
+        Ok(journal) => {
+            let wanted = NodeCall {
+                node,
+                hold,
+                call,
+                states,
+            };
+            let dead = PlaceNodes::of(rt, place);
+            hold_over(journal, wanted, dead, input, output, reports)
+        }
+    }
+}
+
+/// A call for a node with its words, and the states of all nodes before it.
+struct NodeCall<'a> {
+    node: u64,
+    hold: &'a Hold<'a>,
+    call: Call,
+    states: Vec<NodeStatus>,
+}
+
+/// Makes the call over the journal of its node, and holds the factory until the input ends.
+fn hold_over<
+    L: Refusing + Renewing + SpansCalls + Drop,
+    D: DeadNodes + Drop,
+    R: Read + Drop,
+    W: Write,
+    E: Write,
+>(
+    journal: Journal<L>,
+    wanted: NodeCall<'_>,
+    dead: D,
+    input: R,
+    output: &mut W,
+    reports: &mut Reports<'_, E>,
+) -> u8 {
+    let alloc = reports.alloc();
+    let node = wanted.node;
+    let mut input = input;
+    let mut session = Session::over(Config::default(), journal);
+    let _ = clean_dead(alloc, &mut session, &dead);
+    let ended = hold_wanted(alloc, &mut session, wanted, &mut input, output);
+    let answerer = NodeAnswerer::over(node, session, dead);
+    close_held(answerer, node, ended, reports)
+}
+
+/// How a hold ended, and of a call that is refused what it found.
+struct Ended {
+    held: Result<(), HoldError>,
+    offer: Option<Offer>,
+}
+
+/// Makes the call, and holds the factory until the input ends.
+fn hold_wanted<L: SpansCalls, R: Read, W: Write>(
+    alloc: Global,
+    session: &mut Session<Journal<L>>,
+    wanted: NodeCall<'_>,
+    input: &mut R,
+    output: &mut W,
+) -> Ended {
+    let NodeCall {
+        node,
+        hold,
+        call,
+        states,
+    } = wanted;
+    let held = hold_call(alloc, session, call, &states, input, output);
+    let offer = offer_if_refused(alloc, held, node, hold, session.storage());
+    Ended { held, offer }
+}
+
+/// The call of a node that is refused, and the service that it found. `None` where it isn't refused, where no such service
+/// is published, and where there is no memory.
+fn offer_if_refused<S: WorldStorage>(
+    alloc: Global,
+    held: Result<(), HoldError>,
+    node: u64,
+    hold: &Hold<'_>,
+    storage: &S,
+) -> Option<Offer> {
+    let Err(HoldError::Refused(_)) = held else {
+        return None;
+    };
+    let call = held_call(alloc, node, hold)?;
+    match offer_to(alloc, call, storage) {
+        Ok(offer) => offer,
+        Err(_) => None,
+    }
+}
+
+/// Closes what is held still, in another session of the database where the one before has ended, gives back what the
+/// node has besides, and gives the status.
+fn close_held<S: Viewed + Resuming + Troubled + Drop, D: DeadNodes + Drop, E: Write>(
+    answerer: NodeAnswerer<S, D>,
+    node: u64,
+    ended: Ended,
+    reports: &mut Reports<'_, E>,
+) -> u8 {
+    let mut answerer = answerer;
+    answerer.go_on();
+    let _ = reports.look(&answerer);
+    let is_gone = answerer.trouble() == Some(Trouble::Gone);
+    let mut storage = answerer.finish();
+    let is_settled = storage.settle(node, &[]).is_ok();
+    let _ = reports.look(&storage);
+    let status = end_hold(storage.trouble(), ended, is_settled, reports);
+    if is_gone {
+        return FAULT;
+    }
+    status
+}
+
+/// Tells what kept a hold from its end, and that something of the node stays, and gives the status.
+fn end_hold<E: Write>(
+    trouble: Option<Trouble>,
+    ended: Ended,
+    is_settled: bool,
+    reports: &mut Reports<'_, E>,
+) -> u8
+    ensures { result ≡ end_status ended.held is_settled }
+{
+    let Ended { held, offer } = ended;
+    if let Err(why) = held {
+        let _ = report_hold(trouble, why, &offer, reports);
+    }
+    if !is_settled {
+        let _ = reports.tell(STAYS);
+        return FAULT;
+    }
+    match held {
+        Err(HoldError::NotClosed) => DONE,
+        _ => status_of_hold(held),
+    }
+}
+
+/// Writes why a hold ended. That a factory wasn't closed is told at the end, where it stays.
+fn report_hold<E: Write>(
+    trouble: Option<Trouble>,
+    why: HoldError,
+    offer: &Option<Offer>,
+    reports: &mut Reports<'_, E>,
+) -> Result<(), ServeError> {
+    match why {
+        HoldError::Refused(refusal) => tell_refusal(refusal, offer, reports),
+        HoldError::NotMade => reports.tell(NOT_MADE),
+        HoldError::Unshown(why) => report_look(trouble, why, reports),
+        HoldError::Reading(fault) => reports.tell_failure(fault),
+        HoldError::NotClosed => Ok(()),
+    }
+}

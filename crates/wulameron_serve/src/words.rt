@@ -1,0 +1,57 @@
+//! The words of a call, as the terms of an escaped line.
+
+ghost use Rattle.std.specs.Prelude.{◌≡◌, ◌≢◌, ◌<◌, ◌++◌, ◌∷◌, ℕ, List, All, OnOk, codes, length, string_bytes};
+ghost use Rattle.std.specs.List.{flat_map};
+ghost use Rattle.std.specs.Str.{IsUtf8};
+ghost use Rattle.negotiate_lines.specs.Leaves.{IsLeaf};
+ghost use Rattle.negotiate_lines.specs.declared.leaf.Form.TheVariants as form;
+ghost use Rattle.percent_encoding.specs.Percent.{percent_encode};
+ghost use Rattle.wulameron_serve.specs.declared.words.TheConstants.{PARTING};
+ghost use Rattle.wulameron_serve.specs.Words.{PartsLeaves, word_of};
+
+use percent_encoding::{AsciiSet, CONTROLS, ascii_set, percent_encode};
+use std::alloc::AllocError;
+
+/// The bytes of ASCII that stand escaped in a word: controls, the blank, and what begins an escape. The bytes that part the
+/// leaves of a term stand as they are.
+pub const PARTING: AsciiSet = ascii_set!(CONTROLS.add(b' ').add(b'%'));
+
+/// Appends a word as a term. `AllocError` where the text finds no memory; it may have a part of it then.
+pub fn escape_word(word: &[u8], text: &mut String) -> Result<(), AllocError>
+    ensures { OnOk result (string_bytes text.new ≡ string_bytes text.old ++ word_of word.now) }
+{
+    if word.is_empty() {
+        return text.push_str("%");
+    }
+    percent_encode(word, PARTING).append_to(text)
+}
+
+/// Appends a word behind a space.
+fn write_word(word: &str, text: &mut String) -> Result<(), AllocError>
+    ensures { OnOk result (string_bytes text.new ≡ string_bytes text.old ++ (codes " " ++ word_of word.now)) }
+{
+    text.push_str(" ")?;
+    escape_word(word.as_bytes(), text)
+}
+
+/// Appends each word behind a space. `AllocError` where the text finds no memory; it may have a part of them then.
+pub fn write_words(words: &[&str], text: &mut String) -> Result<(), AllocError>
+    ensures { OnOk result (string_bytes text.new
+        ≡ string_bytes text.old ++ flat_map (λ word. codes " " ++ word_of word.now) words.now) }
+{
+    for word in words {
+        write_word(word, text)?;
+    }
+    Ok(())
+}
+
+/// A word stands in the line as one term, and stands for itself where it is a leaf. It is cut at its `=`, `:` and `,` as it
+/// was, and each part stands for itself.
+pub fn laws_of_words()
+    ensures leaf { (word : List ℕ) → IsUtf8 word → IsLeaf form.Escaped (word_of word) word }
+    ensures part { (part : List ℕ) → IsUtf8 part → IsLeaf form.Escaped (percent_encode PARTING part) part }
+    ensures cut { (front back : List ℕ) (byte : ℕ) → PartsLeaves byte → word_of (front ++ byte ∷ back)
+        ≡ percent_encode PARTING front ++ byte ∷ percent_encode PARTING back }
+    ensures term { (word : List ℕ) → All (λ b. b ≢ 32) (word_of word) }
+    ensures some { (word : List ℕ) → 0 < length (word_of word) }
+{}
