@@ -1,7 +1,7 @@
 """The world that a log's entries come to, and whether it agrees.
 
 Written from docs/STORAGES.md, 'What an access does', and from the definitions of iceoryx2_world
-(specs/AccessCases.antt, StepCases.antt, Agreement.antt, Across.antt), not from its code. A world grants an entry or
+(specs/AccessCases.antt, StepCases.antt, ServiceAgreement.antt, Agreement.antt), not from its code. A world grants an entry or
 refuses it; an opening's node reads the description before, where it isn't registered.
 """
 from collections import Counter

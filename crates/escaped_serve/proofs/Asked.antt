@@ -5,7 +5,7 @@ use Rattle.std.specs.declared.alloc.AllocError.{AllocError}
 use Rattle.iceoryx2_call_laws.specs.Quiet.{Shows}
 use Rattle.iceoryx2_session.specs.Sessions.{SessionOver, SessionState}
 use Rattle.iceoryx2_session.specs.StandingSlots.{SlotsStand}
-use Rattle.iceoryx2_world.specs.Across.{Agrees}
+use Rattle.iceoryx2_world.specs.Agreement.{Agrees}
 use Rattle.iceoryx2_world.specs.Tables.{TableState}
 use Rattle.iceoryx2_world.specs.World.{World}
 use Rattle.negotiate_lines.specs.declared.question.Question.{Question}

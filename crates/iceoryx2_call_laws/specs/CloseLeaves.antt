@@ -14,7 +14,7 @@ use Rattle.iceoryx2_world.specs.declared.world.Row.{Row}
 use Rattle.iceoryx2_world.specs.Orders.{tag_cmp}
 use Rattle.iceoryx2_world.specs.World.{World, Segment, row_of, segment_of, phase_of}
 use Rattle.iceoryx2_world.specs.Interference.{SameTickets, SameTags}
-use Rattle.iceoryx2_world.specs.Agreement.{IsPublished, HasMember, IsDeserted}
+use Rattle.iceoryx2_world.specs.ServiceAgreement.{IsPublished, HasMember, IsDeserted}
 use Rattle.iceoryx2_rounds.specs.Closes.{releases}
 
 -- Each removal takes its thing away, unless it is refused; then the thing stays: the tag,

@@ -9,8 +9,8 @@ use Rattle.iceoryx2_access.specs.Run.{Run, Each}
 use Rattle.iceoryx2_testing.specs.Faults.{FaultyState, IsInjectedFault}
 use Rattle.iceoryx2_world.specs.World.{World, phase_of}
 use Rattle.iceoryx2_world.specs.Access.{IsOwnPart}
-use Rattle.iceoryx2_world.specs.Agreement.{IsSegmentOf, Later}
-use Rattle.iceoryx2_world.specs.Across.{Agrees}
+use Rattle.iceoryx2_world.specs.ServiceAgreement.{IsSegmentOf, Later}
+use Rattle.iceoryx2_world.specs.Agreement.{Agrees}
 use Rattle.iceoryx2_world.specs.Interference.{Others, After, IsAccessUnder, IsFallibleUnder, SameTickets}
 use Rattle.iceoryx2_world.specs.Standing.{Spares, Stands}
 use Rattle.iceoryx2_world.specs.Tables.{TableState, IsTableAccess}

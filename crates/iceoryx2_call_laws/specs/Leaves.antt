@@ -9,7 +9,7 @@ use Rattle.iceoryx2_world.specs.declared.world.Phase.{Phase}
 use Rattle.iceoryx2_world.specs.declared.world.Row.{Row}
 use Rattle.iceoryx2_world.specs.Orders.{tag_cmp}
 use Rattle.iceoryx2_world.specs.World.{World, row_of, phase_of, begins, locked_number, row_number}
-use Rattle.iceoryx2_world.specs.Agreement.{IsSpent}
+use Rattle.iceoryx2_world.specs.ServiceAgreement.{IsSpent}
 use Rattle.iceoryx2_access.specs.Run.{Each, Run}
 use Rattle.iceoryx2_world.specs.Interference.{LacksSegment, SameTickets, SameTags, IsFallibleUnder}
 use Rattle.iceoryx2_rounds.specs.GivesBack.{Owned, OwnTag, OwnLock, OwnSegment}

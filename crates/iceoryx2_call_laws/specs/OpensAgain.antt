@@ -13,7 +13,7 @@ use Rattle.iceoryx2_rounds.specs.BuilderCalls.{BuilderCall, ToOpen, opening}
 use Rattle.iceoryx2_rounds.specs.CallWords.{IsWordBy}
 use Rattle.iceoryx2_world.specs.World.{World}
 use Rattle.iceoryx2_world.specs.Access.{IsOwnPart}
-use Rattle.iceoryx2_world.specs.Across.{Agrees}
+use Rattle.iceoryx2_world.specs.Agreement.{Agrees}
 use Rattle.iceoryx2_world.specs.Standing.{Stands}
 use Rattle.iceoryx2_call_laws.specs.AnyCalls.{MayCarryBy}
 use Rattle.iceoryx2_call_laws.specs.Quiet.{Quiet, QuietService, Shows, service_at}

@@ -8,7 +8,7 @@ use Rattle.iceoryx2_access.specs.Run.{Run}
 use Rattle.iceoryx2_testing.specs.Faults.{FaultyState, IsInjectedFault, RefusesNone}
 use Rattle.iceoryx2_world.specs.World.{row_of}
 use Rattle.iceoryx2_world.specs.Steps.{last_number}
-use Rattle.iceoryx2_world.specs.Across.{Agrees}
+use Rattle.iceoryx2_world.specs.Agreement.{Agrees}
 use Rattle.iceoryx2_world.specs.Tables.{TableState, IsTableAccess}
 use Rattle.iceoryx2_rounds.specs.declared.pattern.CreateRefusal.TheVariants.{InternalFailure, OutOfMemory}
 use Rattle.iceoryx2_rounds.specs.PatternRules.{PatternRules}

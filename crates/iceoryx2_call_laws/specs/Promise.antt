@@ -9,7 +9,7 @@ use Rattle.iceoryx2_rounds.specs.BuilderCalls.{BuilderCall, ErrorBy}
 use Rattle.iceoryx2_rounds.specs.CallWords.{IsWordOf}
 use Rattle.iceoryx2_testing.specs.Faults.{IsInjectedFault}
 use Rattle.iceoryx2_world.specs.World.{World}
-use Rattle.iceoryx2_world.specs.Across.{Agrees}
+use Rattle.iceoryx2_world.specs.Agreement.{Agrees}
 use Rattle.iceoryx2_world.specs.Access.{IsOwnPart}
 use Rattle.iceoryx2_world.specs.Interference.{Others, After, IsFallibleUnder, everyone}
 use Rattle.iceoryx2_world.specs.Tables.{IsTableAccess}

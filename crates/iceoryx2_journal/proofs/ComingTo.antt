@@ -6,7 +6,7 @@ use Rattle.iceoryx2_access.specs.Letter as letter
 use Rattle.iceoryx2_access.specs.Run.{Run, done, next}
 use Rattle.iceoryx2_access.proofs.Run.{both}
 use Rattle.iceoryx2_world.specs.World.{World}
-use Rattle.iceoryx2_world.specs.Across.{KeepsAgreement}
+use Rattle.iceoryx2_world.specs.Agreement.{KeepsAgreement}
 use Rattle.iceoryx2_world.specs.Access.{IsOwnPart}
 use Rattle.iceoryx2_world.proofs.agreement.Accesses.{own_keeps, keeps_along}
 use Rattle.iceoryx2_log.specs.declared.entry.Deed.TheVariants as deed

@@ -21,8 +21,8 @@ use Rattle.iceoryx2_world.specs.declared.world.Row.TheVariants as row
 use Rattle.iceoryx2_world.specs.Orders.{participant_cmp, participant_total}
 use Rattle.iceoryx2_world.specs.World.{World, Segment, row_of, segment_of, locked_number, row_number}
 use Rattle.iceoryx2_world.specs.Acts as act
-use Rattle.iceoryx2_world.specs.Agreement.{HasMember, LaterAt, Later}
-use Rattle.iceoryx2_world.specs.Across.{Agrees}
+use Rattle.iceoryx2_world.specs.ServiceAgreement.{HasMember, LaterAt, Later}
+use Rattle.iceoryx2_world.specs.Agreement.{Agrees}
 use Rattle.iceoryx2_world.specs.Access.{IsOwnPart}
 use Rattle.iceoryx2_world.specs.Interference.{everyone, IsFallibleUnder}
 use Rattle.iceoryx2_world.specs.Standing.{Stands, Spares}

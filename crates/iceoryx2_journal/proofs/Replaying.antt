@@ -6,7 +6,7 @@ use Rattle.iceoryx2_access.specs.Letter.{Letter}
 use Rattle.iceoryx2_access.specs.Letter as letter
 use Rattle.iceoryx2_access.specs.Run.{Run, done, next}
 use Rattle.iceoryx2_world.specs.World.{World, empty_world}
-use Rattle.iceoryx2_world.specs.Across.{Agrees}
+use Rattle.iceoryx2_world.specs.Agreement.{Agrees}
 use Rattle.iceoryx2_world.specs.Access.{IsOwnPart}
 use Rattle.iceoryx2_world.proofs.agreement.Empty.{empty_agrees}
 use Rattle.iceoryx2_log.specs.declared.entry.Deed.{Deed}

@@ -11,7 +11,7 @@ use Rattle.iceoryx2_access.specs.Run.{Run, Each, done, next}
 use Rattle.iceoryx2_access.proofs.Run.{one, both, run_map}
 use Rattle.iceoryx2_description.specs.declared.description.ServiceHash.{ServiceHash}
 use Rattle.iceoryx2_world.specs.World.{World}
-use Rattle.iceoryx2_world.specs.Across.{Agrees}
+use Rattle.iceoryx2_world.specs.Agreement.{Agrees}
 use Rattle.iceoryx2_world.specs.Interference.{Rely, IsFallibleUnder}
 use Rattle.iceoryx2_world.specs.Standing.{Stands, Spares}
 use Rattle.iceoryx2_world.proofs.agreement.Accesses.{run_keeps}

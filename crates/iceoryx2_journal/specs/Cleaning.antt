@@ -15,7 +15,7 @@ use Rattle.iceoryx2_world.specs.declared.world.Phase.{Phase}
 use Rattle.iceoryx2_world.specs.declared.world.Phase.TheVariants as at
 use Rattle.iceoryx2_world.specs.World.{World, begins, phase_of}
 use Rattle.iceoryx2_world.specs.Access.{IsOwnPart}
-use Rattle.iceoryx2_world.specs.Across.{Agrees}
+use Rattle.iceoryx2_world.specs.Agreement.{Agrees}
 use Rattle.iceoryx2_world.specs.Standing.{Stands}
 use Rattle.iceoryx2_table.specs.declared.holdings.Holding.{Holding}
 use Rattle.iceoryx2_table.specs.declared.holdings.Holding.TheVariants as holding

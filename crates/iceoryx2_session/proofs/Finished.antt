@@ -5,7 +5,7 @@ use Rattle.iceoryx2_description.specs.declared.config.Config.{Config}
 use Rattle.iceoryx2_description.specs.declared.description.ServiceHash.{ServiceHash}
 use Rattle.iceoryx2_world.specs.Tables.{TableState, IsTableAccess}
 use Rattle.iceoryx2_world.proofs.Waiting.{idle_run}
-use Rattle.iceoryx2_world.specs.Across.{Agrees}
+use Rattle.iceoryx2_world.specs.Agreement.{Agrees}
 use Rattle.iceoryx2_world.specs.Interference.{everyone, IsAccessUnder, SameTickets}
 use Rattle.iceoryx2_world.specs.World.{World, ticket_of}
 use Rattle.iceoryx2_access.specs.Letter.{Letter}

@@ -4,8 +4,8 @@ use Rattle.std.specs.Option.{option_flatten}
 use Rattle.std.specs.Prelude.{is_some}
 use Rattle.iceoryx2_access.specs.Registered.{Registered}
 use Rattle.iceoryx2_world.specs.World.{World, ticket_of}
-use Rattle.iceoryx2_world.specs.Across.{Agrees}
-use Rattle.iceoryx2_world.specs.Agreement.{Later}
+use Rattle.iceoryx2_world.specs.Agreement.{Agrees}
+use Rattle.iceoryx2_world.specs.ServiceAgreement.{Later}
 use Rattle.iceoryx2_world.specs.Standing.{ticket_for}
 use Rattle.iceoryx2_world.proofs.agreement.Stands.{stands_by_ticket}
 use Rattle.iceoryx2_builder.specs.Commands.{slot_count}

@@ -4,7 +4,7 @@ use Rattle.std.specs.Prelude.{◌||◌, nat_eq}
 use Rattle.std.proofs.lemmas.Bool.{eq-eqb}
 use Rattle.iceoryx2_access.specs.Registered.{Registered}
 use Rattle.iceoryx2_world.specs.World.{World}
-use Rattle.iceoryx2_world.specs.Across.{Agrees}
+use Rattle.iceoryx2_world.specs.Agreement.{Agrees}
 use Rattle.iceoryx2_journal.specs.declared.cleaning.Cleaned.{Cleaned}
 use Rattle.iceoryx2_journal.specs.declared.cleaning.CleanError.{CleanError}
 use Rattle.iceoryx2_journal.specs.Owed.{is_among, SettlesInWorld}

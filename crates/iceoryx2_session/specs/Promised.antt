@@ -3,7 +3,7 @@ use Rattle.std.specs.Prelude.{◌≡◌, ◌<◌, ℕ, Bool, true, List, Option,
 use Rattle.iceoryx2_access.specs.Registered.{Registered}
 use Rattle.iceoryx2_access.specs.Letter.{Letter}
 use Rattle.iceoryx2_access.specs.Run.{Run}
-use Rattle.iceoryx2_world.specs.Across.{Agrees}
+use Rattle.iceoryx2_world.specs.Agreement.{Agrees}
 use Rattle.iceoryx2_world.specs.Interference.{everyone, IsFallibleUnder}
 use Rattle.iceoryx2_world.specs.Tables.{IsTableAccess}
 use Rattle.iceoryx2_world.specs.World.{World}

@@ -1,7 +1,7 @@
 //! Going on over a log by another handle, after the one before is over.
 
 ghost use Rattle.std.specs.Prelude.{◌≡◌, false, IfSome, IsTrue, Some};
-ghost use Rattle.iceoryx2_world.specs.Across.{KeepsAgreement};
+ghost use Rattle.iceoryx2_world.specs.Agreement.{KeepsAgreement};
 ghost use Rattle.iceoryx2_world.specs.Standing.{ticket_for};
 ghost use Rattle.iceoryx2_world.specs.World.{ticket_of};
 

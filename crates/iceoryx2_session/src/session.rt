@@ -100,7 +100,7 @@ fn close_slot<S: Storage>(slots: &mut Slots, slot: usize, storage: &mut S)
 impl<S: WorldStorage> Session<S> {
     ghost use Rattle.std.specs.Prelude.{is_some, option_copied};
     ghost use Rattle.iceoryx2_access.specs.Run.{Each};
-    ghost use Rattle.iceoryx2_world.specs.Across.{Agrees};
+    ghost use Rattle.iceoryx2_world.specs.Agreement.{Agrees};
     ghost use Rattle.iceoryx2_world.specs.Interference.{Rely};
     ghost use Rattle.iceoryx2_builder.specs.declared.command.Command.TheVariants as command;
     ghost use Rattle.iceoryx2_session.specs.CommandLists.{CarriesOut};
@@ -507,7 +507,7 @@ impl<S: WorldStorage> Session<S> {
 
 impl<S: Resuming> Session<S> {
     ghost use Rattle.std.specs.Prelude.{IsTrue};
-    ghost use Rattle.iceoryx2_world.specs.Across.{Agrees};
+    ghost use Rattle.iceoryx2_world.specs.Agreement.{Agrees};
     ghost use Rattle.iceoryx2_session.specs.Resumed.{HaveTickets, ResumesSession};
     ghost use Rattle.iceoryx2_session.specs.SessionStates.{own_nodes, own_state, world_state};
     ghost use Rattle.iceoryx2_session.specs.StandingSlots.{SlotsStandInWorld};
@@ -554,7 +554,7 @@ impl<S: Resuming> Session<S> {
 
 impl<S: TableStorage> Session<S> {
     ghost use Rattle.iceoryx2_description.specs.declared.description.ServiceHash.{ServiceHash};
-    ghost use Rattle.iceoryx2_world.specs.Across.{Agrees};
+    ghost use Rattle.iceoryx2_world.specs.Agreement.{Agrees};
     ghost use Rattle.iceoryx2_world.specs.World.{empty_world, ticket_of};
     ghost use Rattle.iceoryx2_session.specs.SessionStates.{own_state, state_of};
     ghost use Rattle.iceoryx2_session.specs.Sessions.{AreClosed, ClosesSlots, ClosesSlotsBy, Applies, AppliesBy};

@@ -3,8 +3,8 @@ use Rattle.std.proofs.Common.{◌≡◌, ℕ, List, ap, subst}
 use Rattle.iceoryx2_access.specs.Letter.{Letter}
 use Rattle.iceoryx2_world.specs.World.{World}
 use Rattle.iceoryx2_world.specs.Access.{IsOwnPart}
-use Rattle.iceoryx2_world.specs.Across.{Agrees}
-use Rattle.iceoryx2_world.specs.Agreement.{Later}
+use Rattle.iceoryx2_world.specs.Agreement.{Agrees}
+use Rattle.iceoryx2_world.specs.ServiceAgreement.{Later}
 use Rattle.iceoryx2_world.specs.declared.batches.Step.{Step}
 use Rattle.iceoryx2_world.specs.Tables.{TableState, IsBatchRun, IsTableAccess}
 use Rattle.iceoryx2_world.proofs.Waiting.{access_after, table_keeps}

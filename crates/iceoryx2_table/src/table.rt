@@ -2,7 +2,7 @@
 
 ghost use Rattle.std.specs.Prelude.{◌≡◌, IfOk, [], length};
 ghost use Rattle.iceoryx2_world.specs.World.{tag_of, empty_world, ticket_count};
-ghost use Rattle.iceoryx2_world.specs.Across.{Agrees};
+ghost use Rattle.iceoryx2_world.specs.Agreement.{Agrees};
 ghost use Rattle.iceoryx2_world.specs.Listing.{Lists};
 ghost use Rattle.iceoryx2_world.specs.Tables.{batch_items, IsBatchRun};
 
@@ -160,8 +160,8 @@ impl<W: OwnParts> TableOver<W> {
 }
 
 impl<W: OwnParts> Storage for TableOver<W> {
-    ghost use Rattle.iceoryx2_world.specs.Across.{Agrees};
-    ghost use Rattle.iceoryx2_world.specs.Agreement.{Later};
+    ghost use Rattle.iceoryx2_world.specs.Agreement.{Agrees};
+    ghost use Rattle.iceoryx2_world.specs.ServiceAgreement.{Later};
     ghost use Rattle.iceoryx2_world.specs.Tables.{IsTableAccess};
     ghost use Rattle.iceoryx2_access.specs.Letter.{fetch_answer};
     ghost use Rattle.iceoryx2_access.specs.Letter as letter;

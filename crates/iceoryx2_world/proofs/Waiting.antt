@@ -2,7 +2,7 @@
 use Rattle.std.proofs.Common.{◌≡◌, ℕ, Bool, zero, suc, List, [], ◌∷◌, length, drop, refl, sym, ap, subst, ◌∙◌}
 use Rattle.iceoryx2_world.specs.World.{World}
 use Rattle.iceoryx2_world.specs.Access.{IsOwnPart}
-use Rattle.iceoryx2_world.specs.Across.{KeepsAgreement}
+use Rattle.iceoryx2_world.specs.Agreement.{KeepsAgreement}
 use Rattle.iceoryx2_world.specs.Interference.{Others, nobody, peer_acts, After, everyone}
 use Rattle.iceoryx2_world.specs.Laws.{BatchIsOfOthers, RunsInWorld, RunsRefusablyInWorld, RunsAlone, OwnPartIsAccess, TakesBatchesOff}
 use Rattle.iceoryx2_world.proofs.agreement.Accesses.{access_keeps, refusable}

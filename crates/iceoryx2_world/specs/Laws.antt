@@ -21,8 +21,8 @@ use Rattle.iceoryx2_world.specs.Orders.{tag_cmp}
 use Rattle.iceoryx2_world.specs.Acts.{Act, IsAct}
 use Rattle.iceoryx2_world.specs.Steps.{world_after, last_number}
 use Rattle.iceoryx2_world.specs.Access.{IsOwnPart}
-use Rattle.iceoryx2_world.specs.Agreement.{AgreesEverywhere, Later, IsSpent}
-use Rattle.iceoryx2_world.specs.Across.{AgreesOnNumbers, Agrees}
+use Rattle.iceoryx2_world.specs.ServiceAgreement.{AgreesEverywhere, Later, IsSpent}
+use Rattle.iceoryx2_world.specs.Agreement.{AgreesOnNumbers, Agrees}
 use Rattle.iceoryx2_world.specs.Calm.{SameServices}
 use Rattle.iceoryx2_world.specs.Standing.{ticket_for, Stands, Spares}
 use Rattle.iceoryx2_world.specs.Interference.{Rely, Others, After, IsAccessUnder, IsFallibleUnder}

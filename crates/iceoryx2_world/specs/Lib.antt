@@ -7,8 +7,8 @@ pub mod StepCases
 pub mod Codes
 pub mod Access
 pub mod AccessCases
+pub mod ServiceAgreement
 pub mod Agreement
-pub mod Across
 pub mod Interference
 pub mod Standing
 pub mod Listing

@@ -16,7 +16,7 @@ ghost use Rattle.iceoryx2_world.specs.AccessCases.{IsOwnCase};
 ghost use Rattle.iceoryx2_access.specs.Letter.{Letter};
 ghost use Rattle.iceoryx2_access.specs.Registered.{Registered};
 ghost use Rattle.iceoryx2_access.specs.Run.{Run};
-ghost use Rattle.iceoryx2_world.specs.Across.{Agrees, KeepsAgreement};
+ghost use Rattle.iceoryx2_world.specs.Agreement.{Agrees, KeepsAgreement};
 ghost use Rattle.iceoryx2_world.specs.Interference.{Rely, IsAccessUnder, IsFallibleUnder};
 ghost use Rattle.iceoryx2_world.specs.Calm.{SameServices, IsCalmLetter};
 ghost use Rattle.iceoryx2_access.specs.MayRefuse.{MayRefuse};

@@ -3,7 +3,7 @@ use Rattle.std.specs.Prelude.{◌≡◌, ℕ, false, [], ◌∷◌, Option, Some
 use Rattle.iceoryx2_journal.specs.Journal.{JournalState}
 use Rattle.iceoryx2_journal.specs.Replay.{Lives}
 use Rattle.iceoryx2_log.specs.Log.{Contents}
-use Rattle.iceoryx2_world.specs.Across.{Agrees}
+use Rattle.iceoryx2_world.specs.Agreement.{Agrees}
 use Rattle.iceoryx2_world.specs.World.{empty_world}
 use Rattle.negotiate_serve.specs.declared.ending.ServeError.TheVariants as failure
 use Rattle.wulameron_place.specs.declared.halt.Halt.{Halt}

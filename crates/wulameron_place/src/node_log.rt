@@ -2,7 +2,7 @@
 
 ghost use Rattle.std.specs.Prelude.{◌≡◌, ◌∷◌, [], IfErr, IfOk, OnOk, true};
 ghost use Rattle.iceoryx2_journal.specs.Replay.{Lives};
-ghost use Rattle.iceoryx2_world.specs.Across.{Agrees};
+ghost use Rattle.iceoryx2_world.specs.Agreement.{Agrees};
 ghost use Rattle.wulameron_place.specs.Halts.{is_of_start};
 ghost use Rattle.wulameron_place.specs.Starting.{HaltsBy, IsNotStarted, IsStarted};
 ghost use Rattle.wulameron_place.specs.Troubles.{trouble_of};

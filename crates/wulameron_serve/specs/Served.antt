@@ -3,7 +3,7 @@ use Rattle.std.specs.Prelude.{◌≡◌, ◌⊎◌, ℕ, Bool, true, false, List
 use Rattle.iceoryx2_access.specs.Letter.{Letter}
 use Rattle.iceoryx2_testing.specs.Trace.{TracedState, IsTracedAccess}
 use Rattle.iceoryx2_world.specs.World.{World}
-use Rattle.iceoryx2_world.specs.Across.{Agrees}
+use Rattle.iceoryx2_world.specs.Agreement.{Agrees}
 use Rattle.iceoryx2_journal.specs.Journal.{JournalState, IsAccessOver, Spans}
 use Rattle.iceoryx2_journal.specs.Owed.{OwesNothing}
 use Rattle.iceoryx2_journal.specs.Replay.{Lives}

@@ -3,7 +3,7 @@ use Rattle.std.specs.Prelude.{◌≡◌, ◌≢◌, ◌⊎◌, ℕ, Bool, true, 
 use Rattle.iceoryx2_description.specs.Defaults.{default_config}
 use Rattle.iceoryx2_access.specs.Letter.{Letter}
 use Rattle.iceoryx2_world.specs.World.{World}
-use Rattle.iceoryx2_world.specs.Across.{Agrees}
+use Rattle.iceoryx2_world.specs.Agreement.{Agrees}
 use Rattle.iceoryx2_builder.specs.declared.command.Call.{Call}
 use Rattle.iceoryx2_builder.specs.declared.command.Command.{Command}
 use Rattle.iceoryx2_builder.specs.declared.command.Command.TheVariants as command

@@ -1,7 +1,7 @@
 //! What answers the lines of one node over a storage that processes share.
 
 ghost use Rattle.std.specs.Prelude.{◌≡◌, ◌-◌, ℕ, List, IfErr, IfOk, IfSome, OnOk, codes, string_bytes, true};
-ghost use Rattle.iceoryx2_world.specs.Across.{Agrees};
+ghost use Rattle.iceoryx2_world.specs.Agreement.{Agrees};
 ghost use Rattle.iceoryx2_builder.specs.declared.command.Command as declared-command;
 ghost use Rattle.iceoryx2_builder.specs.declared.command.Command.TheVariants as command;
 ghost use Rattle.iceoryx2_builder.specs.declared.command.Reply as declared-reply;

@@ -1,7 +1,7 @@
 -- When the bytes of a log's file are sound, and what is wrong with others.
 use Rattle.std.specs.Prelude.{◌≡◌, ◌≢◌, ◌⊎◌, ◌<◌, ◌≤◌, ℕ, ◌+◌, List, [], ◌++◌, length, take}
 use Rattle.iceoryx2_world.specs.World.{World, empty_world}
-use Rattle.iceoryx2_world.specs.Across.{Agrees}
+use Rattle.iceoryx2_world.specs.Agreement.{Agrees}
 use Rattle.iceoryx2_log.specs.declared.entry.Deed.TheVariants.{Moved as Mark}
 use Rattle.iceoryx2_log.specs.declared.entry.Entry.{Entry}
 use Rattle.iceoryx2_log.specs.Form.{IsForm, Begins}

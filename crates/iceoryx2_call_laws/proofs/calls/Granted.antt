@@ -10,7 +10,7 @@ use Rattle.iceoryx2_access.specs.Registered.{Registered}
 use Rattle.iceoryx2_access.specs.Run.{Run, next}
 use Rattle.iceoryx2_access.proofs.Run.{split, head, last}
 use Rattle.iceoryx2_world.specs.World.{World}
-use Rattle.iceoryx2_world.specs.Across.{Agrees}
+use Rattle.iceoryx2_world.specs.Agreement.{Agrees}
 use Rattle.iceoryx2_world.specs.Interference.{IsFallibleUnder, SameTickets}
 use Rattle.iceoryx2_world.specs.Standing.{Stands, ticket_for}
 use Rattle.iceoryx2_world.proofs.agreement.Accesses.{faulty_keeps, run_keeps}

@@ -12,7 +12,7 @@ use Rattle.iceoryx2_access.specs.MayRefuse.{MayRefuse}
 use Rattle.iceoryx2_access.specs.Run.{Run, Each}
 use Rattle.iceoryx2_world.specs.World.{World}
 use Rattle.iceoryx2_world.specs.Access.{IsOwnPart}
-use Rattle.iceoryx2_world.specs.Across.{Agrees}
+use Rattle.iceoryx2_world.specs.Agreement.{Agrees}
 use Rattle.iceoryx2_world.specs.Interference.{Others, After, IsFallibleUnder}
 use Rattle.iceoryx2_world.proofs.agreement.Interference.{among_others}
 use Rattle.iceoryx2_world.specs.Standing.{Spares, Stands}

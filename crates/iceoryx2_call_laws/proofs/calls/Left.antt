@@ -23,8 +23,8 @@ use Rattle.iceoryx2_world.specs.World.{World, Segment, row_of, segment_of, phase
 use Rattle.iceoryx2_world.specs.Acts.{Act}
 use Rattle.iceoryx2_world.specs.Acts as act
 use Rattle.iceoryx2_world.specs.Steps.{ServiceView, world_after}
-use Rattle.iceoryx2_world.specs.Agreement.{IsSpent, Later}
-use Rattle.iceoryx2_world.specs.Across.{Agrees}
+use Rattle.iceoryx2_world.specs.ServiceAgreement.{IsSpent, Later}
+use Rattle.iceoryx2_world.specs.Agreement.{Agrees}
 use Rattle.iceoryx2_world.specs.Access.{Change, node_view, write, MakesTag, IsOwnPart}
 use Rattle.iceoryx2_world.specs.Interference.{LacksSegment, SameTickets, SameTags, KeepsOwn, IsAccessUnder, IsFallibleUnder}
 use Rattle.iceoryx2_world.proofs.agreement.Interference.{tickets_refl, tickets_trans, tickets_equal, tags_trans, tags_equal, tags_insert, tags_remove}

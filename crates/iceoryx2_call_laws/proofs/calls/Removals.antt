@@ -5,7 +5,7 @@ use Rattle.iceoryx2_access.specs.declared.storage.RemoveError.{RemoveError}
 use Rattle.iceoryx2_access.specs.Letter as letter
 use Rattle.iceoryx2_world.specs.declared.world.Participant.TheVariants.{Node}
 use Rattle.iceoryx2_world.specs.World.{World, phase_of}
-use Rattle.iceoryx2_world.specs.Across.{Agrees}
+use Rattle.iceoryx2_world.specs.Agreement.{Agrees}
 use Rattle.iceoryx2_world.specs.Interference.{IsAccessUnder}
 use Rattle.iceoryx2_world.proofs.agreement.Granted.{tag_granted, segment_granted, description_granted, MayClear, MayEnd}
 

@@ -6,8 +6,8 @@ use Rattle.iceoryx2_access.specs.Letter as letter
 use Rattle.iceoryx2_access.specs.Run.{Run, Each, done, next}
 use Rattle.iceoryx2_access.proofs.Run.{both, split, each_append}
 use Rattle.iceoryx2_world.specs.World.{World}
-use Rattle.iceoryx2_world.specs.Across.{Agrees}
-use Rattle.iceoryx2_world.specs.Agreement.{IsSpent}
+use Rattle.iceoryx2_world.specs.Agreement.{Agrees}
+use Rattle.iceoryx2_world.specs.ServiceAgreement.{IsSpent}
 use Rattle.iceoryx2_world.specs.Interference.{IsAccessUnder, IsFallibleUnder}
 use Rattle.iceoryx2_world.proofs.agreement.Interference.{tickets_refl, tickets_trans, tags_trans, spent_access}
 use Rattle.iceoryx2_world.proofs.agreement.Accesses.{faulty_keeps, run_keeps, unrefused_run}

@@ -5,7 +5,7 @@ use Rattle.iceoryx2_data.specs.Form as form
 use Rattle.iceoryx2_data.proofs.Fields.{one_description}
 use Rattle.iceoryx2_world.specs.declared.world.Row.TheVariants as row
 use Rattle.iceoryx2_world.specs.World.{row_of, phase_of}
-use Rattle.iceoryx2_world.specs.Agreement.{IsSegmentOf}
+use Rattle.iceoryx2_world.specs.ServiceAgreement.{IsSegmentOf}
 use Rattle.iceoryx2_call_laws.specs.Laws.{StandsAmong, CarryTheSame}
 
 -- its segment is one for its description

@@ -19,7 +19,7 @@ use Rattle.iceoryx2_world.specs.declared.world.Ticket.{Ticket}
 use Rattle.iceoryx2_world.specs.World.{World, Tickets}
 use Rattle.iceoryx2_world.specs.Acts as act
 use Rattle.iceoryx2_world.specs.Calm.{IsCalmLetter}
-use Rattle.iceoryx2_world.specs.Across.{Agrees}
+use Rattle.iceoryx2_world.specs.Agreement.{Agrees}
 use Rattle.iceoryx2_world.specs.Interference.{SameTickets, IsFallibleUnder}
 use Rattle.iceoryx2_world.proofs.agreement.Interference.{tickets_refl, tickets_trans, tickets_equal, tickets_insert, tickets_remove}
 use Rattle.iceoryx2_world.specs.Standing.{ticket_for}

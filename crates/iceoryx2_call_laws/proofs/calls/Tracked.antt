@@ -10,7 +10,7 @@ use Rattle.iceoryx2_access.specs.Letter as letter
 use Rattle.iceoryx2_access.specs.Run.{Each}
 use Rattle.iceoryx2_access.proofs.Run.{each_append}
 use Rattle.iceoryx2_world.specs.World.{World}
-use Rattle.iceoryx2_world.specs.Agreement.{IsSpent}
+use Rattle.iceoryx2_world.specs.ServiceAgreement.{IsSpent}
 use Rattle.iceoryx2_world.specs.Calm.{IsCalmLetter}
 use Rattle.iceoryx2_world.proofs.agreement.Calm as calm
 use Rattle.iceoryx2_world.proofs.agreement.Calm.{Tame, tame_both}

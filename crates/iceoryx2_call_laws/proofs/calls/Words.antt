@@ -3,7 +3,7 @@ use Rattle.std.proofs.Common.{◌≡◌, ◌≢◌, ℕ, Bool, true, List, [], �
 use Rattle.iceoryx2_world.specs.World.{World}
 use Rattle.iceoryx2_access.specs.Letter.{Letter}
 use Rattle.iceoryx2_access.specs.Letter as letter
-use Rattle.iceoryx2_world.specs.Across.{Agrees}
+use Rattle.iceoryx2_world.specs.Agreement.{Agrees}
 use Rattle.iceoryx2_world.specs.Interference.{IsFallibleUnder}
 use Rattle.iceoryx2_access.specs.Registered.{Registered}
 use Rattle.iceoryx2_world.specs.Standing.{Stands, Spares}

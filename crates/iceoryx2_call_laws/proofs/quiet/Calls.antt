@@ -12,8 +12,8 @@ use Rattle.iceoryx2_world.specs.declared.world.Participant.TheVariants.{Node}
 use Rattle.iceoryx2_access.specs.Letter.{Letter}
 use Rattle.iceoryx2_access.specs.Run.{Run, done, next}
 use Rattle.iceoryx2_world.specs.Access.{IsOwnPart}
-use Rattle.iceoryx2_world.specs.Agreement.{Later}
-use Rattle.iceoryx2_world.specs.Across.{Agrees}
+use Rattle.iceoryx2_world.specs.ServiceAgreement.{Later}
+use Rattle.iceoryx2_world.specs.Agreement.{Agrees}
 use Rattle.iceoryx2_world.specs.Standing.{ticket_for}
 use Rattle.iceoryx2_world.proofs.agreement.Whole.{own_hash}
 use Rattle.iceoryx2_world.proofs.agreement.Accesses.{own_keeps, later_refl, later_trans}

@@ -10,7 +10,7 @@ use Rattle.iceoryx2_access.specs.Letter.{Letter}
 use Rattle.iceoryx2_access.specs.Run.{Run}
 use Rattle.iceoryx2_access.specs.Registered.{Registered}
 use Rattle.iceoryx2_world.specs.Access.{IsOwnPart, NodeView, node_view}
-use Rattle.iceoryx2_world.specs.Across.{Agrees}
+use Rattle.iceoryx2_world.specs.Agreement.{Agrees}
 use Rattle.iceoryx2_world.specs.Standing.{Stands}
 use Rattle.iceoryx2_rounds.specs.PatternRules.{PatternRules}
 use Rattle.iceoryx2_rounds.specs.declared.look.Outcome.{Outcome}

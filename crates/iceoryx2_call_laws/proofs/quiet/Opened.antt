@@ -19,7 +19,7 @@ use Rattle.iceoryx2_world.specs.Steps.{last_number}
 use Rattle.iceoryx2_access.specs.Letter.{Letter}
 use Rattle.iceoryx2_access.specs.Run.{Run}
 use Rattle.iceoryx2_world.specs.Access.{NodeView, node_view}
-use Rattle.iceoryx2_world.specs.Across.{Agrees}
+use Rattle.iceoryx2_world.specs.Agreement.{Agrees}
 use Rattle.iceoryx2_world.proofs.agreement.Moved.{contains_inserted}
 use Rattle.iceoryx2_world.proofs.agreement.Few.{few_tickets}
 use Rattle.iceoryx2_rounds.specs.PatternRules.{PatternRules}

@@ -8,7 +8,7 @@ use Rattle.iceoryx2_access.specs.Run.{Run, done}
 use Rattle.iceoryx2_access.specs.Registered.{Registered}
 use Rattle.iceoryx2_access.proofs.Run.{split}
 use Rattle.iceoryx2_world.specs.Access.{IsOwnPart}
-use Rattle.iceoryx2_world.specs.Across.{Agrees}
+use Rattle.iceoryx2_world.specs.Agreement.{Agrees}
 use Rattle.iceoryx2_rounds.specs.Answers.{map_err}
 use Rattle.iceoryx2_rounds.specs.Creates.{time_of}
 use Rattle.iceoryx2_rounds.specs.declared.look.Fault.{Fault}

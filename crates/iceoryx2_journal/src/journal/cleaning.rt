@@ -2,7 +2,7 @@
 
 ghost use Rattle.std.specs.Prelude.{◌≡◌, None, OnErr, OnOk, ◌++◌, ◌∷◌, [], true};
 ghost use Rattle.iceoryx2_access.specs.Registered.{Registered};
-ghost use Rattle.iceoryx2_world.specs.Across.{Agrees};
+ghost use Rattle.iceoryx2_world.specs.Agreement.{Agrees};
 ghost use Rattle.iceoryx2_world.specs.Interference.{Rely};
 ghost use Rattle.iceoryx2_world.specs.Standing.{Stands};
 ghost use Rattle.iceoryx2_table.specs.Holdings.{IsHolding};

@@ -13,8 +13,8 @@ use Rattle.iceoryx2_world.specs.World.{World, Segment, row_of, segment_of, phase
 use Rattle.iceoryx2_world.specs.Acts.{Act, IsAct}
 use Rattle.iceoryx2_world.specs.Acts as act
 use Rattle.iceoryx2_world.specs.Steps.{ServiceView, world_after}
-use Rattle.iceoryx2_world.specs.Agreement.{AgreesAt, AgreesEverywhere, Later, IsPublished}
-use Rattle.iceoryx2_world.specs.Across.{Agrees, KeepsAgreement}
+use Rattle.iceoryx2_world.specs.ServiceAgreement.{AgreesAt, AgreesEverywhere, Later, IsPublished}
+use Rattle.iceoryx2_world.specs.Agreement.{Agrees, KeepsAgreement}
 use Rattle.iceoryx2_access.specs.Letter.{Letter}
 use Rattle.iceoryx2_world.specs.Access.{IsOwnPart}
 use Rattle.iceoryx2_world.specs.Interference.{After, IsAccessUnder, IsFallibleUnder}

@@ -10,8 +10,8 @@ use Rattle.iceoryx2_world.specs.declared.world.Phase.TheVariants as at
 use Rattle.iceoryx2_world.specs.declared.world.Ticket.{Ticket}
 use Rattle.iceoryx2_world.specs.Orders.{hash_cmp, place_cmp}
 use Rattle.iceoryx2_world.specs.World.{row_of, segment_of, phase_of, or_idle, empty_world, ticket_of, belongs, ticket_count, join_count}
-use Rattle.iceoryx2_world.specs.Agreement.{AgreesAt}
-use Rattle.iceoryx2_world.specs.Across.{Agrees}
+use Rattle.iceoryx2_world.specs.ServiceAgreement.{AgreesAt}
+use Rattle.iceoryx2_world.specs.Agreement.{Agrees}
 
 nothing_agrees : (c : ℕ) (h : ServiceHash) → AgreesAt c h None None (λ p. at.Idle)
 nothing_agrees c h = record {

@@ -8,7 +8,7 @@ use Rattle.std.proofs.lemmas.Map.Lookups.{exact_unsigned}
 use Rattle.iceoryx2_description.specs.declared.description.ServiceHash.{ServiceHash}
 use Rattle.iceoryx2_world.specs.declared.world.Ticket.{Ticket}
 use Rattle.iceoryx2_world.specs.World.{World, Tickets, belongs, ticket_count}
-use Rattle.iceoryx2_world.specs.Across.{AgreesOnNumbers}
+use Rattle.iceoryx2_world.specs.Agreement.{AgreesOnNumbers}
 use Rattle.iceoryx2_world.proofs.agreement.Maps.{set_cases}
 use Rattle.iceoryx2_world.proofs.agreement.Worlds.{is_none}
 use Rattle.iceoryx2_world.proofs.agreement.Empty.{no_count}

@@ -8,7 +8,7 @@ use Rattle.iceoryx2_world.specs.declared.world.Participant.TheVariants.{Node}
 use Rattle.iceoryx2_world.specs.declared.world.Phase.{Phase}
 use Rattle.iceoryx2_world.specs.declared.world.Ticket.{Ticket}
 use Rattle.iceoryx2_world.specs.World.{World, phase_of, joined_number, ticket_of, join_count, belongs, ticket_count}
-use Rattle.iceoryx2_world.specs.Across.{AgreesOnTickets}
+use Rattle.iceoryx2_world.specs.Agreement.{AgreesOnTickets}
 use Rattle.iceoryx2_world.proofs.agreement.Maps.{set_cases}
 use Rattle.iceoryx2_world.proofs.agreement.Effects.{Gains, Loses}
 use Rattle.iceoryx2_world.proofs.agreement.Tickets.{one_if, count_insert, count_remove, belongs_own, belongs_other, one_or_more}

@@ -15,8 +15,8 @@ use Rattle.iceoryx2_world.specs.World.{World, Tickets, phase_of, tag_of, locked_
 use Rattle.iceoryx2_world.specs.Acts.{Act, IsAct}
 use Rattle.iceoryx2_world.specs.Acts as act
 use Rattle.iceoryx2_world.specs.Steps.{ServiceView, world_after}
-use Rattle.iceoryx2_world.specs.Agreement.{IsSpent}
-use Rattle.iceoryx2_world.specs.Across.{Agrees}
+use Rattle.iceoryx2_world.specs.ServiceAgreement.{IsSpent}
+use Rattle.iceoryx2_world.specs.Agreement.{Agrees}
 use Rattle.iceoryx2_access.specs.Letter.{Letter, acting_node, service_of}
 use Rattle.iceoryx2_access.specs.Letter as letter
 use Rattle.iceoryx2_access.specs.Registered.{Registered}

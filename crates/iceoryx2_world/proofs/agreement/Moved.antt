@@ -11,7 +11,7 @@ use Rattle.iceoryx2_world.specs.declared.world.Phase.TheVariants as at
 use Rattle.iceoryx2_description.specs.declared.description.ServiceHash.{ServiceHash}
 use Rattle.iceoryx2_world.specs.declared.world.Row.{Row}
 use Rattle.iceoryx2_world.specs.World.{Segment, is_last}
-use Rattle.iceoryx2_world.specs.Agreement.{AgreesAt}
+use Rattle.iceoryx2_world.specs.ServiceAgreement.{AgreesAt}
 use Rattle.iceoryx2_world.specs.Orders.{participant_cmp, participant_total, participant_exact}
 
 abbrev pub same : Participant → Participant → Bool

@@ -11,7 +11,7 @@ use Rattle.iceoryx2_world.specs.World.{Segment, begins, locked_number, is_last}
 use Rattle.iceoryx2_world.specs.Steps.{new_segment}
 use Rattle.iceoryx2_description.specs.Description.{Description, max_nodes_of}
 use Rattle.iceoryx2_data.specs.Form.{IsForm}
-use Rattle.iceoryx2_world.specs.Agreement.{AgreesAt, Describes, HasMember, IsPublished}
+use Rattle.iceoryx2_world.specs.ServiceAgreement.{AgreesAt, Describes, HasMember, IsPublished}
 use Rattle.iceoryx2_world.proofs.agreement.Moved.{moved, moved_here, at_each, contains_alone, contains_insert, contains_inserted, contains_remove, contains_insert_other, contains_remove_other, len_alone, len_insert_le, len_remove_le, only_one, last_cases, not_last}
 
 -- a description stays one where who is registered stays so

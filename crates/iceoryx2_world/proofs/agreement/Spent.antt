@@ -11,8 +11,8 @@ use Rattle.iceoryx2_world.specs.World.{World, Segment, row_of, segment_of, phase
 use Rattle.iceoryx2_world.specs.Acts.{Act, IsAct, Read, Lock, RemoveSegment, RemoveDescription, Make, Publish, Join, Leave}
 use Rattle.iceoryx2_world.specs.Acts as act
 use Rattle.iceoryx2_world.specs.Steps.{ServiceView, put, world_after, with_one, without_one, without_any}
-use Rattle.iceoryx2_world.specs.Agreement.{AgreesEverywhere, IsSpent}
-use Rattle.iceoryx2_world.specs.Across.{Agrees}
+use Rattle.iceoryx2_world.specs.ServiceAgreement.{AgreesEverywhere, IsSpent}
+use Rattle.iceoryx2_world.specs.Agreement.{Agrees}
 use Rattle.iceoryx2_access.specs.Letter.{Letter}
 use Rattle.iceoryx2_world.specs.Access.{IsOwnPart}
 use Rattle.iceoryx2_world.proofs.agreement.Whole.{after_keeps}

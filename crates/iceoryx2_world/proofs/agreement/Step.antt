@@ -9,7 +9,7 @@ use Rattle.iceoryx2_world.specs.World.{Segment, begins, locked_number, is_last}
 use Rattle.iceoryx2_data.specs.Form as form
 use Rattle.iceoryx2_world.specs.Acts.{Act, IsAct}
 use Rattle.iceoryx2_world.specs.Steps.{ServiceView, view_after}
-use Rattle.iceoryx2_world.specs.Agreement.{AgreesAt, LaterAt}
+use Rattle.iceoryx2_world.specs.ServiceAgreement.{AgreesAt, LaterAt}
 use Rattle.iceoryx2_world.proofs.agreement.Moved.{moved}
 use Rattle.iceoryx2_world.specs.StepCases.{IsStep, reads, locks, clears, makes, unmakes, unlocks, publishes, joins, joins_again, leaves_once, leaves, leaves_last, clears_last, ends}
 use Rattle.iceoryx2_world.proofs.agreement.StepCases.{step_case}

@@ -16,7 +16,7 @@ use Rattle.iceoryx2_world.specs.Orders.{hash_cmp, hash_exact, hash_total, place_
 use Rattle.iceoryx2_world.specs.World.{World, Segment, row_of, segment_of, phase_of, or_idle, unless_idle, set_to}
 use Rattle.iceoryx2_world.specs.Acts.{Act, IsAct}
 use Rattle.iceoryx2_world.specs.Steps.{ServiceView, view_after, put, world_after}
-use Rattle.iceoryx2_world.specs.Agreement.{AgreesAt, AgreesEverywhere, LaterAt, Later}
+use Rattle.iceoryx2_world.specs.ServiceAgreement.{AgreesAt, AgreesEverywhere, LaterAt, Later}
 use Rattle.iceoryx2_world.proofs.agreement.Moved.{moved, same}
 use Rattle.iceoryx2_world.proofs.agreement.Step.{step_keeps, later_same}
 

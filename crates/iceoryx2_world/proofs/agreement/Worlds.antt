@@ -14,9 +14,9 @@ use Rattle.iceoryx2_world.specs.World.{World, row_of, segment_of, phase_of, or_i
 use Rattle.iceoryx2_world.specs.Acts.{Act, IsAct}
 use Rattle.iceoryx2_world.specs.Acts as act
 use Rattle.iceoryx2_world.specs.Steps.{ServiceView, put, world_after}
-use Rattle.iceoryx2_world.specs.Agreement.{AgreesEverywhere, Later}
+use Rattle.iceoryx2_world.specs.ServiceAgreement.{AgreesEverywhere, Later}
 use Rattle.iceoryx2_world.proofs.agreement.Whole.{AgreesAt-later, after_keeps, stored}
-use Rattle.iceoryx2_world.specs.Across.{AgreesOnNumbers, Agrees, KeepsAgreement}
+use Rattle.iceoryx2_world.specs.Agreement.{AgreesOnNumbers, Agrees, KeepsAgreement}
 use Rattle.iceoryx2_world.specs.Laws.{EachStepKeeps}
 use Rattle.iceoryx2_world.proofs.agreement.Maps.{set_cases}
 use Rattle.iceoryx2_world.proofs.agreement.Effects.{Gains, Idles, PhaseChange, AllowedStep, allowed_step, step_effect}

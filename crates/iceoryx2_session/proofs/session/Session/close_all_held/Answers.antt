@@ -1,6 +1,6 @@
 use Rattle.std.proofs.Common.{List, Option, ap, sym, subst, ◌∙◌}
 use Rattle.iceoryx2_access.specs.Registered.{Registered}
-use Rattle.iceoryx2_world.specs.Across.{Agrees}
+use Rattle.iceoryx2_world.specs.Agreement.{Agrees}
 use Rattle.iceoryx2_world.specs.World.{World}
 use Rattle.iceoryx2_session.specs.SessionStates.{own_state}
 use Rattle.iceoryx2_session.specs.Sessions.{SessionOver, ClosesSlotsBy}

@@ -1,7 +1,7 @@
 use Rattle.std.proofs.Common.{◌≡◌, ℕ, Bool, true, false, List, Option, Some, None, rules, sym, ap, subst, ◌∙◌}
 use Rattle.iceoryx2_journal.specs.Journal.{JournalState}
 use Rattle.iceoryx2_journal.specs.Replay.{Lives}
-use Rattle.iceoryx2_world.specs.Across.{Agrees}
+use Rattle.iceoryx2_world.specs.Agreement.{Agrees}
 use Rattle.iceoryx2_world.specs.World.{empty_world}
 use Rattle.iceoryx2_world.proofs.agreement.Empty.{empty_agrees}
 use Rattle.wulameron_place.specs.declared.halt.Halt.TheVariants as halt

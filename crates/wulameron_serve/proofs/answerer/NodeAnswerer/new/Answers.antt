@@ -1,5 +1,5 @@
 use Rattle.std.proofs.Common.{sym, ap, subst, ◌∙◌}
-use Rattle.iceoryx2_world.specs.Across.{Agrees}
+use Rattle.iceoryx2_world.specs.Agreement.{Agrees}
 use Rattle.wulameron_serve.proofs.answerer.NodeAnswerer.new.Goals as goal
 
 pub returns-clause-stands : goal.returns-clause-stands
