@@ -34,7 +34,7 @@ def replay(data, quiet):
     header, entries, is_moved = read_header(data), [], False
     world = World(header.counter)
     for entry in entries_of(data):
-        is_moved = entry.deed == MOVED
+        is_moved = entry.operation == MOVED
         if not quiet:
             print(entry.line())
         if not is_moved:

@@ -151,7 +151,7 @@ def check_log(runs, path, first, follower):
     status, rest, err = follower.end(interrupt=True)
     lines += rest
     runs.need(status == -signal.SIGINT, f"log --follow ended with {status}: {err}")
-    wanted = [f"{at} node {one.node} {VERBS[one.deed]} " for at, one in enumerate(entries)]
+    wanted = [f"{at} node {one.node} {VERBS[one.operation]} " for at, one in enumerate(entries)]
     runs.need(lines[0] is not None and len(lines) == len(wanted), f"log --follow printed {len(lines)} lines of {len(wanted)} entries")
     for line, front in zip(lines, wanted):
         runs.need((line or "").startswith(front), f"log --follow printed {line!r}, not {front!r}")

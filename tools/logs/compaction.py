@@ -205,8 +205,8 @@ def dead_before(runs):
     runs.random.shuffle(tries)
 
     def look(found):
-        deed = read_log(found[1].data).entries[-1].deed
-        compacted_with(runs, found[1], f"compacted-{found[0]}-{found[1].pattern}-{deed}")
+        operation = read_log(found[1].data).entries[-1].operation
+        compacted_with(runs, found[1], f"compacted-{found[0]}-{found[1].pattern}-{operation}")
 
     done = at_once(look, tries, DEATHS_SECONDS, least=8, threads=AT_ONCE)
     print(f"compacted after {done} of {len(tries)} deaths")

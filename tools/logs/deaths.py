@@ -89,11 +89,11 @@ class Death:
 # ---- what is made
 
 
-def written(runs, path, deeds, what):
+def written(runs, path, operations, what):
     """The log of a path, in which these were done."""
     data = path.read_bytes()
-    found = [entry.deed for entry in read_log(data).entries]
-    runs.need(found == deeds, f"{what}: in the log is {found}")
+    found = [entry.operation for entry in read_log(data).entries]
+    runs.need(found == operations, f"{what}: in the log is {found}")
     return data
 
 
@@ -114,8 +114,8 @@ def twice(runs, pattern):
     lines = [whole.line("create", DEAD), whole.line("open", DEAD, 1), f"rr create {DEAD} 2 second"]
     ran = runs.run(path, DEAD, [*lines, "close 0", "close 2", "close 1"])
     runs.need(ran.status == 0 and all(" " in reply for reply in ran.out), f"{what}: {ran}")
-    deeds = [*CREATED, "open_segment", *CREATED, "release", *CLOSED_LAST, *CLOSED_LAST]
-    data = written(runs, path, deeds, what)
+    operations = [*CREATED, "open_segment", *CREATED, "release", *CLOSED_LAST, *CLOSED_LAST]
+    data = written(runs, path, operations, what)
     return [Death(pattern, data[: entry.end]) for entry in read_log(data).entries[len(CREATED) :]]
 
 
@@ -182,17 +182,17 @@ def check_cleaned(runs, path, old, living, what):
     runs.need(not world.remains(living), f"{what}: there still is {world.remains(living)}")
     given = [entry for entry in entries if entry.node == DEAD]
     runs.need(given == entries, f"{what}: others wrote {[entry.line() for entry in entries if entry not in given]}")
-    letters = "".join(LETTERS.get(entry.deed, "?") for entry in given)
+    letters = "".join(LETTERS.get(entry.operation, "?") for entry in given)
     runs.need(IN_ORDER.fullmatch(letters), f"{what}: it was given back in the order {letters}")
     if letters:
         runs.count("cleanings")
-    return Counter(entry.deed for entry in given)
+    return Counter(entry.operation for entry in given)
 
 
-def clean_line(node, deeds):
+def clean_line(node, operations):
     """The line of what was given back for a node; none where nothing was."""
-    releases, removals = deeds["release"], sum(deeds.values()) - deeds["release"]
-    return [f"node {node}: {releases} releases, {removals} removals"] if deeds else []
+    releases, removals = operations["release"], sum(operations.values()) - operations["release"]
+    return [f"node {node}: {releases} releases, {removals} removals"] if operations else []
 
 
 def check_clean(runs, path, living, what):
@@ -333,7 +333,7 @@ def within_a_call(runs, death, name, call):
         left = found[1].left_by(DEAD)
         wanted = (0, 0, 0) if is_cleaned else replayed[1].left_by(DEAD)
         runs.need(left == wanted, f"{what}: the dead node has {left}, and not {wanted}")
-        letters = "".join(LETTERS.get(entry.deed, "?") for entry in found[0] if entry.node == DEAD)
+        letters = "".join(LETTERS.get(entry.operation, "?") for entry in found[0] if entry.node == DEAD)
         runs.need(IN_ORDER.fullmatch(letters), f"{what}: it was given back in the order {letters}")
         runs.count("cleanings", is_cleaned)
     ended = [process.end() for process in (other, maker) if process]
@@ -353,9 +353,9 @@ def again(runs, death, name, flags):
     runs.need(fine and ran.status == 0 and not ran.err, f"{what}: {ran}")
     found = appended(runs, path, old, what)
     if found:
-        done = [entry.deed for entry in found[0]]
+        done = [entry.operation for entry in found[0]]
         own = OPENED + CLOSED if maker else CREATED + CLOSED_LAST
-        letters = "".join(LETTERS.get(deed, "?") for deed in done[: -len(own)])
+        letters = "".join(LETTERS.get(operation, "?") for operation in done[: -len(own)])
         fine = done[-len(own) :] == own and {entry.node for entry in found[0]} == {DEAD}
         runs.need(fine and IN_ORDER.fullmatch(letters), f"{what}: it did {done}")
         runs.count("cleanings", bool(letters))
@@ -373,8 +373,8 @@ def each_death(runs, seconds):
     def look(found):
         at, scene = found
         death = deaths[at]
-        deed = read_log(death.data).entries[-1].deed
-        scene(runs, death, f"death-{at}-{death.pattern}-{deed}")
+        operation = read_log(death.data).entries[-1].operation
+        scene(runs, death, f"death-{at}-{death.pattern}-{operation}")
         runs.count("deaths")
 
     done = at_once(look, tries, seconds, threads=DEATHS_AT_ONCE)
@@ -492,7 +492,7 @@ def creating(runs):
         runs.need(fine and time.monotonic() - begin >= CREATION_SECONDS / 2, f"{what}: when it was created {ran}")
         found = appended(runs, path, whole, what)
         if found:
-            done = [(entry.node, entry.deed) for entry in found[0]]
+            done = [(entry.node, entry.operation) for entry in found[0]]
             runs.need(done == [(OTHER, "make_tag"), (OTHER, "remove_tag")], f"{what}: then it did {done}")
 
 
@@ -553,9 +553,9 @@ def check_counts(runs, ran, entries, what):
     """The lines of these runs of clean count what stands in the log, each thing once."""
     given = {}
     for entry in entries:
-        given.setdefault(entry.node, Counter())[entry.deed] += 1
-        runs.need(entry.deed in LETTERS, f"{what}: {entry.line()}")
-    wanted = sorted(line for node, deeds in given.items() for line in clean_line(node, deeds))
+        given.setdefault(entry.node, Counter())[entry.operation] += 1
+        runs.need(entry.operation in LETTERS, f"{what}: {entry.line()}")
+    wanted = sorted(line for node, operations in given.items() for line in clean_line(node, operations))
     found = sorted(line for one in ran for line in one.out)
     runs.need(found == wanted, f"{what}: the lines are {found}, and not {wanted}")
     fine = all(one.status == 0 and not one.err for one in ran)

@@ -340,7 +340,7 @@ def check_full(runs, path, data, ran, what):
     replayed = runs.replay(after, what)
     if not replayed:
         return
-    published = sum(entry.deed == "publish" and entry.node == NODE for entry in replayed[0].entries)
+    published = sum(entry.operation == "publish" and entry.node == NODE for entry in replayed[0].entries)
     runs.need(published == granted, f"{what}: {granted} creates were granted, and {published} stand")
 
 

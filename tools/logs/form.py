@@ -31,7 +31,7 @@ DEEDS = {
     10: ("spend", ("number",)),
     11: ("moved", ()),
 }
-# The deed of no access: the log goes on in another file.
+# The operation of no access: the log goes on in another file.
 MOVED = "moved"
 # Of a description.
 FORM_MAGIC = b"IOX2"
@@ -214,7 +214,7 @@ class Entry:
 
     at: int
     count: int
-    deed: str
+    operation: str
     node: int
     hash: bytes
     number: int | None = None
@@ -230,11 +230,11 @@ class Entry:
     @property
     def ticket_taken(self):
         """The ticket that its node has by it; nothing where it takes none."""
-        return {"publish": self.number, "open_segment": self.ticket}.get(self.deed)
+        return {"publish": self.number, "open_segment": self.ticket}.get(self.operation)
 
     def line(self):
         """The entry as a line."""
-        words = [f"{self.at}: node {self.node} {self.deed} {self.hash.hex()}"]
+        words = [f"{self.at}: node {self.node} {self.operation} {self.hash.hex()}"]
         for name in ("number", "ticket", "max_nodes"):
             if getattr(self, name) is not None:
                 words.append(f"{name}={getattr(self, name)}")
@@ -258,11 +258,11 @@ def read_body(body, at):
     kind = parts.number(1)
     if kind not in DEEDS:
         raise Malformed(f"kind {kind}")
-    deed, details = DEEDS[kind]
+    operation, details = DEEDS[kind]
     node, service_hash = parts.number(), parts.take(HASH_LENGTH)
     found = {name: parts.rest() if name == "form" else parts.number() for name in details}
     parts.end()
-    return Entry(at, HEADER_LENGTH + SUM_LENGTH + len(body), deed, node, service_hash, **found)
+    return Entry(at, HEADER_LENGTH + SUM_LENGTH + len(body), operation, node, service_hash, **found)
 
 
 def front_of(data, at):
@@ -340,7 +340,7 @@ class Log:
 def entries_of(data, at=FILE_HEADER_LENGTH):
     """Each whole entry from there on, the mark among them."""
     while isinstance(entry := front_of(data, at), Entry):
-        if entry.deed == MOVED and entry.end < len(data):
+        if entry.operation == MOVED and entry.end < len(data):
             raise Wrong(at, f"is damaged at byte {at}")
         yield entry
         at = entry.end
@@ -359,7 +359,7 @@ def read_log(data):
     """The log that the bytes of a file are."""
     header = read_header(data)
     entries = list(entries_of(data))
-    is_moved = bool(entries) and entries[-1].deed == MOVED
+    is_moved = bool(entries) and entries[-1].operation == MOVED
     if is_moved:
         entries.pop()
     check_snapshot(header, entries)

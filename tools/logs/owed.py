@@ -39,8 +39,8 @@ def whole(runs):
     wanted = ["ok 0 number=0", "ok 1 number=1", "closed 1", "closed 0"]
     runs.need((ran.status, ran.out, ran.err) == (0, wanted, ""), f"what is owed: nothing was refused, and {ran}")
     entries = read_log(path.read_bytes()).entries
-    deeds = [entry.deed for entry in entries]
-    return entries if runs.need(deeds == DEEDS, f"what is owed: in the log is {deeds}") else None
+    operations = [entry.operation for entry in entries]
+    return entries if runs.need(operations == DEEDS, f"what is owed: in the log is {operations}") else None
 
 
 def has(runs, path, wanted, what):
@@ -64,7 +64,7 @@ def answer_begins(at):
 
 def refused(runs, entries, at):
     """The entry at this place is refused, and all later ones of its call. Then there is room again."""
-    path, what = runs.file(f"owed-{at}"), f"what is owed of a refused {entries[at].deed}, entry {at}"
+    path, what = runs.file(f"owed-{at}"), f"what is owed of a refused {entries[at].operation}, entry {at}"
     before, line = ([KEPT], OWED[0]) if at < CLOSED else ([KEPT, OWED[0]], OWED[1])
     living, is_open = Limited(runs, path, NODE), at == CLOSED
     replies = [str(living.reply(one)) for one in before]

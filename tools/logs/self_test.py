@@ -245,7 +245,7 @@ def test_compacted(tests):
     """A log that begins with a snapshot, and one that goes on in another file."""
     snapshot = [entry_bytes("spend", 0, 7, found=ZEROS), *created(number=7)]
     log = read_log(snapshot_file(snapshot, opened(2, 7, 8)))
-    tests.same("a snapshot", ([entry.deed for entry in log.snapshot], len(log.entries)), (["spend", *KINDS_CREATED], 7))
+    tests.same("a snapshot", ([entry.operation for entry in log.snapshot], len(log.entries)), (["spend", *KINDS_CREATED], 7))
     count = len(b"".join(snapshot))
     for wrong in (1, 52, 54, count - 1):
         data = header_bytes(snapshot_length=wrong) + b"".join(snapshot)
@@ -310,7 +310,7 @@ def test_worlds(tests):
     again = created(number=7) + ended(1, 7, 7) + created(2, 8, pubsub_form(5, found=OTHER, name="b"), OTHER, 5)
     world = replayed(again, counter=7)
     tests.same("another", world.listing()[0], f"pubsub b {OTHER.hex()} number=8 nodes=1/5")
-    removals = [entry_bytes(deed, 1) for deed in ("remove_segment", "remove_description", "remove_tag")]
+    removals = [entry_bytes(operation, 1) for operation in ("remove_segment", "remove_description", "remove_tag")]
     nothing = "0 published, 0 locked, 0 segments (0 marked), 0 tickets, 0 tags, counter 1, 0 entries without effect"
     tests.same("what is given back", replayed(created()[:3] + removals).counts(), nothing)
 

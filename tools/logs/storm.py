@@ -196,7 +196,7 @@ class Watcher(threading.Thread):
         at, is_moved = max(len(self.seen), FILE_HEADER_LENGTH), False
         try:
             for entry in entries_of(data, at):
-                is_moved = entry.deed == MOVED
+                is_moved = entry.operation == MOVED
                 at = at if is_moved else entry.end
         except Wrong:
             # Another process may be writing there. Whether it stays so is seen when all have ended.
@@ -264,7 +264,7 @@ def check_entries(runs, process, log, what, cleans=True):
     runs.need(more <= process.is_killed, f"{what}: {more} services were opened without a reply")
     closed = sum(reply.startswith("closed ") for reply in process.replies)
     tickets = {entry.ticket_taken for entry in taken}
-    releases = [entry for entry in own if entry.deed == "release" and entry.ticket in tickets]
+    releases = [entry for entry in own if entry.operation == "release" and entry.ticket in tickets]
     # What others have released after its end isn't its own.
     until = process.struck if cleans else log.whole
     released = sum(entry.at < until for entry in releases)
@@ -274,7 +274,7 @@ def check_entries(runs, process, log, what, cleans=True):
     runs.need(least <= len(releases), f"{what}: {len(releases)} releases in all, and {least} are the least")
 
 
-def check_given_back(runs, processes, log, what, deeds=GIVING_BACK):
+def check_given_back(runs, processes, log, what, operations=GIVING_BACK):
     """After a process's end only what it had is given back in its node's name, until the node's next one begins."""
     lives = {}
     for process in processes:
@@ -283,7 +283,7 @@ def check_given_back(runs, processes, log, what, deeds=GIVING_BACK):
         is_living = any(began <= entry.at < ended for began, ended in lives.get(entry.node, [(0, log.whole)]))
         if not is_living:
             runs.count("entries for dead nodes")
-            runs.need(entry.deed in deeds, f"{what}: in the name of node {entry.node} that was dead: {entry.line()}")
+            runs.need(entry.operation in operations, f"{what}: in the name of node {entry.node} that was dead: {entry.line()}")
 
 
 def check_listings(runs, processes, log, what):

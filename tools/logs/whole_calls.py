@@ -70,7 +70,7 @@ def unfinished(entries, counter):
 def left_in(path):
     """The unfinished calls of a file, in words."""
     log = read_log(path.read_bytes())
-    return [f"{entry.deed} of node {entry.node}" for entry in unfinished(log.entries, log.header.counter)]
+    return [f"{entry.operation} of node {entry.node}" for entry in unfinished(log.entries, log.header.counter)]
 
 
 # ---- one that is stopped at each step

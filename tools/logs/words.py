@@ -77,8 +77,8 @@ def publishing(node, what, found, number, words):
     return entry_bytes("publish", node, number, form, found=found)
 
 
-def deed(node, verb, found, words):
-    """The entry of another deed."""
+def operation(node, verb, found, words):
+    """The entry of another operation."""
     kind, details = DEEDS[verb]
     terms = {name: int(value) for name, value in (word.split("=") for word in words)}
     if terms.keys() != set(details):
@@ -95,5 +95,5 @@ def entry(line):
     if made := re.fullmatch(r"node (\d+) publishes (\S+ \S+) (\S+) number=(\d+)((?: \S+)*)", line):
         return publishing(int(made[1]), made[2], digits(made[3], 20), int(made[4]), made[5].split())
     if made := re.fullmatch(rf"node (\d+) ({'|'.join(DEEDS)}) (\S+)((?: \w+=\d+)*)", line):
-        return deed(int(made[1]), made[2], digits(made[3], 20), made[4].split())
+        return operation(int(made[1]), made[2], digits(made[3], 20), made[4].split())
     raise ValueError("it is no entry, and damages nothing")

@@ -80,18 +80,18 @@ class World:
         self.make(entry)
         for why in (later_fault(before, self.rows.get(entry.hash), counter), self.disagreement()):
             if why:
-                raise Wrong(entry.at, f"after {entry.deed} of node {entry.node} the world doesn't agree: {why}")
+                raise Wrong(entry.at, f"after {entry.operation} of node {entry.node} the world doesn't agree: {why}")
 
     def make(self, entry):
         """Makes the entry's access, and tests nothing else."""
         try:
             self.grant(entry)
         except NotGranted as refusal:
-            raise Wrong(entry.at, f"node {entry.node}: {entry.deed} isn't granted: {refusal}") from None
+            raise Wrong(entry.at, f"node {entry.node}: {entry.operation} isn't granted: {refusal}") from None
 
     def grant(self, entry):
         """Makes the entry's access, or refuses it and changes nothing."""
-        getattr(self, entry.deed)(entry)
+        getattr(self, entry.operation)(entry)
 
     def phase(self, entry):
         """Where the entry's node is with its service; nothing where it holds and has read nothing."""

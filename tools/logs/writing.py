@@ -61,9 +61,9 @@ def sealed(body):
     return length + struct.pack(">I", len(body) ^ 0xFFFFFFFF) + hashlib.sha1(length + body).digest()[:8] + body
 
 
-def entry_bytes(deed, node, *details, found=HASH):
+def entry_bytes(operation, node, *details, found=HASH):
     """An entry; its details are numbers, and bytes for a description."""
-    body = struct.pack(">BQ20s", KINDS.index(deed) + 1, node, found)
+    body = struct.pack(">BQ20s", KINDS.index(operation) + 1, node, found)
     return sealed(body + b"".join(one if isinstance(one, bytes) else struct.pack(">Q", one) for one in details))
 
 
@@ -156,5 +156,5 @@ def left(node, number, ticket, found=HASH):
 
 def ended(node, number, ticket, found=HASH):
     """The four entries of the last close."""
-    removals = [entry_bytes(deed, node, found=found) for deed in ("remove_segment", "remove_description")]
+    removals = [entry_bytes(operation, node, found=found) for operation in ("remove_segment", "remove_description")]
     return left(node, number, ticket, found) + removals

@@ -95,7 +95,7 @@ def check_log(shown, first, follower):
     status, rest, err = follower.end(interrupt=True)
     lines += rest
     need(status == -signal.SIGINT, f"log --follow ended with {status}: {err}")
-    wanted = [f"{at} node {one.node} {VERBS[one.deed]} " for at, one in enumerate(table.entries)]
+    wanted = [f"{at} node {one.node} {VERBS[one.operation]} " for at, one in enumerate(table.entries)]
     need(len(lines) == len(wanted), f"log --follow printed {len(lines)} lines of {len(wanted)} entries")
     for line, front in zip(lines, wanted):
         need((line or "").startswith(front), f"log --follow printed {line!r}, not {front!r}")

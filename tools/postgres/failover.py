@@ -17,7 +17,7 @@ LOST = 20
 
 
 def run_until_failover(site, name, server, strike):
-    """A storm at a server, which is ended in its midst by some deed; gives its processes, all of which are over."""
+    """A storm at a server, which is ended in its midst by some operation; gives its processes, all of which are over."""
     checks = site.checks
     processes = begun(site, name, checks.random.randrange(10**6), Ended, killed=0, calls=LINES, server=server)
     for process in processes:

@@ -151,7 +151,7 @@ def check_in_flux(checks, processes, table, what):
     for process in processes:
         if was_killed(process):
             own = [entry for entry in table.entries if entry.node == process.node and entry.at >= process.struck]
-            left |= {entry.hash for entry in own if entry.deed in GIVING_BACK}
+            left |= {entry.hash for entry in own if entry.operation in GIVING_BACK}
     for process in processes:
         for line, reply in zip(process.lines, process.replies):
             if IN_FLUX in reply:

@@ -113,13 +113,13 @@ def after_snapshot(checks, table, entries, what):
 def add_generation(checks, table, rows, is_last, what):
     """Goes on with another generation."""
     entries = [entry_of(row, row.number) for row in rows[1:]]
-    marks = [entry.at for entry in entries if entry.deed == MOVED]
+    marks = [entry.at for entry in entries if entry.operation == MOVED]
     checks.same(marks, [] if is_last else [len(entries)], f"{what}: the marks of generation {rows[0].generation}")
     table.snapshot = 0
     if rows[0].generation:
-        table.world, table.snapshot = after_snapshot(checks, table, [one for one in entries if one.deed != MOVED], what)
+        table.world, table.snapshot = after_snapshot(checks, table, [one for one in entries if one.operation != MOVED], what)
     for row, entry in zip(rows[1:], entries):
-        if row.number > table.snapshot and entry.deed != MOVED:
+        if row.number > table.snapshot and entry.operation != MOVED:
             entry = replace(entry, at=table.whole, count=1)
             table.world.follow(entry)
             table.entries.append(entry)

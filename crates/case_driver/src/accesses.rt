@@ -1,9 +1,9 @@
 //! Single accesses as questions: an access with its numbers, of the service that was named last.
 
 use crate::answers::{Said, write_said};
+use crate::case_error::CaseError;
 use crate::descriptions::Descriptions;
 use crate::words::{first_word, named, number, numbers};
-use crate::wrong::Wrong;
 use iceoryx2_access::storage::Storage;
 use iceoryx2_description::description::ServiceHash;
 use std::alloc::Global;
@@ -61,10 +61,10 @@ fn make<S: Storage>(
 }
 
 /// The numbers behind an access that takes so many, and zeros behind them.
-fn numbers_of(alloc: Global, count: usize, text: &str) -> Result<[u64; 3], Wrong> {
+fn numbers_of(alloc: Global, count: usize, text: &str) -> Result<[u64; 3], CaseError> {
     let numbers = numbers(alloc, text)?;
     if numbers.len() != count {
-        return Err(Wrong);
+        return Err(CaseError);
     }
     match numbers.as_slice() {
         [] => Ok([0, 0, 0]),
@@ -81,7 +81,7 @@ fn fetch<S: Storage>(
     (storage, hash): (&mut S, &ServiceHash),
     node: &str,
     text: &mut String,
-) -> Result<(), Wrong> {
+) -> Result<(), CaseError> {
     match storage.fetch(number(node)?, hash) {
         Ok((number, bytes)) => {
             write!(text, "{number} ")?;
@@ -98,7 +98,7 @@ fn publish<S: Storage>(
     (storage, hash): (&mut S, &ServiceHash),
     rest: &str,
     text: &mut String,
-) -> Result<(), Wrong> {
+) -> Result<(), CaseError> {
     let (node, rest) = first_word(rest);
     let (of, name) = first_word(rest);
     let (node, of) = (number(node)?, number(of)?);
@@ -114,7 +114,7 @@ pub fn ask<S: Storage>(
     (storage, hash): (&mut S, &ServiceHash),
     (name, rest): (&str, &str),
     text: &mut String,
-) -> Result<(), Wrong> {
+) -> Result<(), CaseError> {
     match name {
         "fetch" => fetch(alloc, descriptions, (storage, hash), rest, text),
         "publish" => publish(alloc, descriptions, (storage, hash), rest, text),

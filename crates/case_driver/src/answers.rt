@@ -1,8 +1,8 @@
 //! What accesses answer, in words: a table for both directions.
 
+use crate::case_error::CaseError;
 use crate::descriptions::Descriptions;
 use crate::words::{first_word, named, number};
-use crate::wrong::Wrong;
 use iceoryx2_access::storage::{
     Existence, FetchError, LockError, MakeSegmentError, OpenSegmentError, PublishError, Release,
     ReleaseError, RemoveError, Tag, TagError,
@@ -194,22 +194,26 @@ fn numbered(
     descriptions: &Descriptions,
     (access, name): (&str, &str),
     number: u64,
-) -> Result<Answer, Wrong> {
+) -> Result<Answer, CaseError> {
     match access {
         "fetch" => Ok(Answer::Fetch(Ok((number, descriptions.bytes(name)?.to_vec(alloc)?)))),
         "lock" => Ok(Answer::Lock(Ok(number))),
         "publish" => Ok(Answer::Publish(Ok(number))),
         "open_segment" => Ok(Answer::OpenSegment(Ok(number))),
-        _ => Err(Wrong),
+        _ => Err(CaseError),
     }
 }
 
 /// The answer of the words `ACCESS ANSWER`.
-pub fn answer_in(alloc: Global, descriptions: &Descriptions, text: &str) -> Result<Answer, Wrong> {
+pub fn answer_in(
+    alloc: Global,
+    descriptions: &Descriptions,
+    text: &str,
+) -> Result<Answer, CaseError> {
     let (access, rest) = first_word(text);
     let (word, name) = first_word(rest);
     match number(word) {
         Ok(number) => numbered(alloc, descriptions, (access, name), number),
-        Err(Wrong) => Ok(answer_of(named(&SAID, text)?)),
+        Err(CaseError) => Ok(answer_of(named(&SAID, text)?)),
     }
 }

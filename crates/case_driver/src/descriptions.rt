@@ -1,7 +1,7 @@
 //! Descriptions with names, as bytes.
 
+use crate::case_error::CaseError;
 use crate::words::{first_word, number};
-use crate::wrong::Wrong;
 use iceoryx2_builder::command::{Call, Command};
 use iceoryx2_data::bytes::decode;
 use iceoryx2_description::description::StaticConfig;
@@ -15,18 +15,18 @@ pub struct Descriptions {
 }
 
 /// The call that a line is.
-pub fn call_in(alloc: Global, line: &str) -> Result<Call, Wrong> {
+pub fn call_in(alloc: Global, line: &str) -> Result<Call, CaseError> {
     match command_in(alloc, line) {
         Some(Command::Call(call)) => Ok(call),
-        _ => Err(Wrong),
+        _ => Err(CaseError),
     }
 }
 
 /// The bytes that hexadecimal digits say.
-pub fn bytes_in(alloc: Global, digits: &str) -> Result<Vec<u8>, Wrong> {
+pub fn bytes_in(alloc: Global, digits: &str) -> Result<Vec<u8>, CaseError> {
     match hex::decode(alloc, digits) {
         Ok(bytes) => Ok(bytes),
-        Err(_) => Err(Wrong),
+        Err(_) => Err(CaseError),
     }
 }
 
@@ -39,17 +39,17 @@ fn without_creator(alloc: Global, bytes: &[u8]) -> Result<Vec<u8>, AllocError> {
 }
 
 /// The bytes of a service with its terms, of this creator or of none.
-fn described(alloc: Global, text: &str, creator: &str) -> Result<Vec<u8>, Wrong> {
+fn described(alloc: Global, text: &str, creator: &str) -> Result<Vec<u8>, CaseError> {
     let (pattern, rest) = first_word(text);
     match first_word(creator) {
         ("by", node) => {
             let node = number(node)?;
             let line = format!(in alloc; "{pattern} create {node} 0 {rest}")?;
-            created(alloc, line.as_str()).ok_or(Wrong)
+            created(alloc, line.as_str()).ok_or(CaseError)
         }
         _ => {
             let line = format!(in alloc; "{pattern} create 0 0 {rest}")?;
-            let bytes = created(alloc, line.as_str()).ok_or(Wrong)?;
+            let bytes = created(alloc, line.as_str()).ok_or(CaseError)?;
             Ok(without_creator(alloc, &bytes)?)
         }
     }
@@ -57,9 +57,9 @@ fn described(alloc: Global, text: &str, creator: &str) -> Result<Vec<u8>, Wrong>
 
 impl Descriptions {
     /// Adds what `NAME [by NODE] = PATTERN SERVICE [TERM ..]` or `NAME = hex DIGITS` says.
-    pub fn add(&mut self, alloc: Global, text: &str) -> Result<(), Wrong> {
+    pub fn add(&mut self, alloc: Global, text: &str) -> Result<(), CaseError> {
         let Some((front, meant)) = text.split_once('=') else {
-            return Err(Wrong);
+            return Err(CaseError);
         };
         let (name, creator) = first_word(front);
         let bytes = match first_word(meant) {
@@ -70,20 +70,20 @@ impl Descriptions {
     }
 
     /// The bytes of the last description with this name.
-    pub fn bytes(&self, name: &str) -> Result<&[u8], Wrong> {
+    pub fn bytes(&self, name: &str) -> Result<&[u8], CaseError> {
         for (known, bytes) in self.all.iter().rev() {
             if known.as_str() == name {
                 return Ok(bytes.as_slice());
             }
         }
-        Err(Wrong)
+        Err(CaseError)
     }
 
     /// The last description with this name.
-    pub fn description(&self, alloc: Global, name: &str) -> Result<StaticConfig, Wrong> {
+    pub fn description(&self, alloc: Global, name: &str) -> Result<StaticConfig, CaseError> {
         match decode(alloc, self.bytes(name)?) {
             Ok(description) => Ok(description),
-            Err(_) => Err(Wrong),
+            Err(_) => Err(CaseError),
         }
     }
 

@@ -1,23 +1,23 @@
 //! Questions about the byte form.
 
+use crate::case_error::CaseError;
 use crate::descriptions::bytes_in;
-use crate::wrong::Wrong;
 use iceoryx2_data::bytes::{DecodeError, decode};
 use std::alloc::Global;
 use test_support::terms::write_service;
 
 /// Writes the description of these digits in terms, or that they are none.
-pub fn write_decoded(alloc: Global, digits: &str, text: &mut String) -> Result<(), Wrong> {
+pub fn write_decoded(alloc: Global, digits: &str, text: &mut String) -> Result<(), CaseError> {
     let bytes = bytes_in(alloc, digits)?;
     match decode(alloc, &bytes) {
         Ok(description) => Ok(write_service(alloc, &description, text)?),
         Err(DecodeError::Malformed) => Ok(text.push_str("Malformed")?),
-        Err(DecodeError::OutOfMemory) => Err(Wrong),
+        Err(DecodeError::OutOfMemory) => Err(CaseError),
     }
 }
 
 /// Writes how many of the proper fronts of these bytes are the form of a description.
-pub fn write_fronts(alloc: Global, digits: &str, text: &mut String) -> Result<(), Wrong> {
+pub fn write_fronts(alloc: Global, digits: &str, text: &mut String) -> Result<(), CaseError> {
     let bytes = bytes_in(alloc, digits)?;
     let mut forms = 0u64;
     for length in 0..bytes.len() {
@@ -37,7 +37,7 @@ fn change(bytes: &mut Vec<u8>, place: usize, bits: u8) {
 }
 
 /// Writes for how many changes of one byte there is no description.
-pub fn write_changed(alloc: Global, digits: &str, text: &mut String) -> Result<(), Wrong> {
+pub fn write_changed(alloc: Global, digits: &str, text: &mut String) -> Result<(), CaseError> {
     let mut bytes = bytes_in(alloc, digits)?;
     let changes = bytes.len().saturating_mul(255);
     let mut malformed = 0u64;

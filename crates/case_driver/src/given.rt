@@ -1,11 +1,11 @@
 //! What lines give: how a run begins, what others do, and what things are called.
 
 use crate::answers::answer_in;
+use crate::case_error::CaseError;
 use crate::descriptions::{Descriptions, bytes_in};
-use crate::entries::deed_in;
+use crate::entries::operation_in;
 use crate::known::Known;
 use crate::words::{first_word, named, number, numbers};
-use crate::wrong::Wrong;
 use iceoryx2_description::description::ServiceHash;
 use iceoryx2_log::entry::Entry;
 use iceoryx2_table::table::{Act, Step};
@@ -111,7 +111,7 @@ fn around<'a>(text: &'a str, word: &str) -> (&'a str, &'a str) {
 }
 
 /// The act that a text says.
-fn act_in(alloc: Global, descriptions: &Descriptions, text: &str) -> Result<Act, Wrong> {
+fn act_in(alloc: Global, descriptions: &Descriptions, text: &str) -> Result<Act, CaseError> {
     let (word, rest) = first_word(text);
     match word {
         "read" => Ok(Act::Read),
@@ -124,7 +124,7 @@ fn act_in(alloc: Global, descriptions: &Descriptions, text: &str) -> Result<Act,
             max_nodes: number(rest)?,
         }),
         "publish" => Ok(Act::Publish(descriptions.description(alloc, rest)?)),
-        _ => Err(Wrong),
+        _ => Err(CaseError),
     }
 }
 
@@ -134,7 +134,7 @@ fn push_steps(
     descriptions: &Descriptions,
     (peer, hash, steps): (u64, ServiceHash, &str),
     batch: &mut Vec<Step>,
-) -> Result<(), Wrong> {
+) -> Result<(), CaseError> {
     for step in steps.split(',') {
         let act = act_in(alloc, descriptions, step)?;
         batch.push(Step { peer, hash, act })?;
@@ -146,12 +146,16 @@ fn push_steps(
 fn push_entries(
     alloc: Global,
     descriptions: &Descriptions,
-    (node, hash, deeds): (u64, ServiceHash, &str),
+    (node, hash, operations): (u64, ServiceHash, &str),
     batch: &mut Vec<Entry>,
-) -> Result<(), Wrong> {
-    for text in deeds.split(',') {
-        let deed = deed_in(alloc, descriptions, text)?;
-        batch.push(Entry { node, hash, deed })?;
+) -> Result<(), CaseError> {
+    for text in operations.split(',') {
+        let operation = operation_in(alloc, descriptions, text)?;
+        batch.push(Entry {
+            node,
+            hash,
+            operation,
+        })?;
     }
     Ok(())
 }
@@ -161,14 +165,14 @@ fn make_room<T: Drop>(
     alloc: Global,
     batches: &mut Vec<Vec<T>>,
     access: u64,
-) -> Result<usize, Wrong> {
+) -> Result<usize, CaseError> {
     if access > MOST_BATCHES {
-        return Err(Wrong);
+        return Err(CaseError);
     }
     for _ in batches.len() as u64..access {
         batches.push(Vec::new(alloc))?;
     }
-    (access as usize).checked_sub(1).ok_or(Wrong)
+    (access as usize).checked_sub(1).ok_or(CaseError)
 }
 
 impl Given {
@@ -197,7 +201,7 @@ impl Given {
     }
 
     /// Takes over a line that is no question.
-    pub fn add(&mut self, alloc: Global, line: &str) -> Result<(), Wrong> {
+    pub fn add(&mut self, alloc: Global, line: &str) -> Result<(), CaseError> {
         if line.starts_with('>') {
             return self.add_input(alloc, line);
         }
@@ -217,7 +221,7 @@ impl Given {
     }
 
     /// Adds to a program's input: `> TEXT` and an end of line, `>> TEXT` without one, or the bytes of `>= DIGITS`.
-    fn add_input(&mut self, alloc: Global, line: &str) -> Result<(), Wrong> {
+    fn add_input(&mut self, alloc: Global, line: &str) -> Result<(), CaseError> {
         if let Some(digits) = line.strip_prefix(">= ") {
             let bytes = bytes_in(alloc, digits)?;
             return Ok(self.input.extend_from_slice(&bytes)?);
@@ -231,7 +235,7 @@ impl Given {
     }
 
     /// Begins the run `STORAGE [counter N] [refuse N ..]`.
-    fn begin(&mut self, alloc: Global, text: &str) -> Result<(), Wrong> {
+    fn begin(&mut self, alloc: Global, text: &str) -> Result<(), CaseError> {
         let (front, refused) = around(text, " refuse ");
         let (storage, counter) = around(front, " counter ");
         self.over = named(&OVER, storage.trim())?;
@@ -240,13 +244,13 @@ impl Given {
             self.counter = number(counter.trim())?;
         }
         if self.counter != 0 && self.over == Over::Plain {
-            return Err(Wrong);
+            return Err(CaseError);
         }
         Ok(())
     }
 
     /// Adds the steps of a peer, `NODE before N ..: STEP, ..`, to the batches before these accesses.
-    fn add_steps(&mut self, alloc: Global, text: &str) -> Result<(), Wrong> {
+    fn add_steps(&mut self, alloc: Global, text: &str) -> Result<(), CaseError> {
         let (front, steps) = around(text, ":");
         let (peer, accesses) = around(front, " before ");
         let peer = number(peer.trim())?;
@@ -262,39 +266,39 @@ impl Given {
         alloc: Global,
         access: u64,
         (peer, steps): (u64, &str),
-    ) -> Result<(), Wrong> {
+    ) -> Result<(), CaseError> {
         if self.over.is_journal() {
-            return Err(Wrong);
+            return Err(CaseError);
         }
         let place = make_room(alloc, &mut self.batches, access)?;
         match (self.service, self.batches.get_mut(place)) {
             (Some(hash), Some(batch)) => {
                 push_steps(alloc, &self.descriptions, (peer, hash, steps), batch)
             }
-            _ => Err(Wrong),
+            _ => Err(CaseError),
         }
     }
 
     /// Adds the entries of a node, `NODE before N: DEED, ..`, to those that come before this access.
-    fn add_entries(&mut self, alloc: Global, text: &str) -> Result<(), Wrong> {
-        let (front, deeds) = around(text, ":");
+    fn add_entries(&mut self, alloc: Global, text: &str) -> Result<(), CaseError> {
+        let (front, operations) = around(text, ":");
         let (node, access) = around(front, " before ");
         let (node, access) = (number(node.trim())?, number(access.trim())?);
         self.known.add_node(node)?;
         if !self.over.is_journal() {
-            return Err(Wrong);
+            return Err(CaseError);
         }
         let place = make_room(alloc, &mut self.entries, access)?;
         match (self.service, self.entries.get_mut(place)) {
             (Some(hash), Some(batch)) => {
-                push_entries(alloc, &self.descriptions, (node, hash, deeds), batch)
+                push_entries(alloc, &self.descriptions, (node, hash, operations), batch)
             }
-            _ => Err(Wrong),
+            _ => Err(CaseError),
         }
     }
 
     /// Adds answers of a script.
-    fn add_answers(&mut self, alloc: Global, all: &str) -> Result<(), Wrong> {
+    fn add_answers(&mut self, alloc: Global, all: &str) -> Result<(), CaseError> {
         for text in all.split(',') {
             let text = text.trim();
             let answer = answer_in(alloc, &self.descriptions, text)?;

@@ -1,7 +1,7 @@
 //! Services and nodes that a run has named.
 
+use crate::case_error::CaseError;
 use crate::words::{first_word, named};
-use crate::wrong::Wrong;
 use iceoryx2_access::storage::{ServiceNameHasher, Sha1Hasher};
 use iceoryx2_description::description::{ServiceHash, ServiceName};
 use std::alloc::{AllocError, Global};
@@ -17,12 +17,12 @@ pub struct Known {
 const PREFIXES: [(&str, u8); 3] = [("event", b'e'), ("pubsub", b'p'), ("rr", b'r')];
 
 /// The hash of the service `PATTERN NAME`.
-pub fn hash_of(alloc: Global, service: &str) -> Result<ServiceHash, Wrong> {
+pub fn hash_of(alloc: Global, service: &str) -> Result<ServiceHash, CaseError> {
     let (pattern, name) = first_word(service);
     let prefix = named(&PREFIXES, pattern)?;
     match ServiceName::new(alloc, name) {
         Ok(name) => Ok(Sha1Hasher::hash(prefix, &name)),
-        Err(_) => Err(Wrong),
+        Err(_) => Err(CaseError),
     }
 }
 
@@ -43,7 +43,7 @@ impl Known {
     }
 
     /// Adds the service `PATTERN NAME`, and returns its hash.
-    pub fn add_service(&mut self, alloc: Global, service: &str) -> Result<ServiceHash, Wrong> {
+    pub fn add_service(&mut self, alloc: Global, service: &str) -> Result<ServiceHash, CaseError> {
         let hash = hash_of(alloc, service)?;
         if !self.has(&hash) {
             self.services

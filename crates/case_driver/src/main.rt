@@ -8,6 +8,7 @@
 
 mod accesses;
 mod answers;
+mod case_error;
 mod descriptions;
 mod entries;
 mod forms;
@@ -21,7 +22,6 @@ mod storages;
 mod subject;
 mod values;
 mod words;
-mod wrong;
 
 use crate::starve::carry_out_all;
 use std::io;

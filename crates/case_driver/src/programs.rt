@@ -1,7 +1,7 @@
 //! Whole programs: an input in, what they print out.
 
+use crate::case_error::CaseError;
 use crate::given::Over;
-use crate::wrong::Wrong;
 use explain_serve::format::Format;
 use explain_serve::serve::serve as explain;
 use iceoryx2_description::config::Config;
@@ -68,10 +68,10 @@ fn serve(
 }
 
 /// Writes what stands on a page.
-fn write_page(page: &[u8], text: &mut String) -> Result<(), Wrong> {
+fn write_page(page: &[u8], text: &mut String) -> Result<(), CaseError> {
     match std::str::from_utf8(page) {
         Ok(printed) => Ok(text.push_str(printed)?),
-        Err(_) => Err(Wrong),
+        Err(_) => Err(CaseError),
     }
 }
 
@@ -81,7 +81,7 @@ pub fn write_served(
     over: Over,
     input: &[u8],
     text: &mut String,
-) -> Result<(), Wrong> {
+) -> Result<(), CaseError> {
     let mut page = Vec::new(alloc);
     let ended = serve(alloc, over, input, &mut page);
     write_page(&page, text)?;
@@ -90,7 +90,12 @@ pub fn write_served(
 }
 
 /// Writes what it prints on the standard error, or that this is nothing.
-pub fn write_said(alloc: Global, over: Over, input: &[u8], text: &mut String) -> Result<(), Wrong> {
+pub fn write_said(
+    alloc: Global,
+    over: Over,
+    input: &[u8],
+    text: &mut String,
+) -> Result<(), CaseError> {
     let mut page = Vec::new(alloc);
     let ended = serve(alloc, over, input, &mut page);
     page.clear();
@@ -99,7 +104,7 @@ pub fn write_said(alloc: Global, over: Over, input: &[u8], text: &mut String) ->
         _ => "explain",
     };
     if report(name, &ended, &mut page).is_err() {
-        return Err(Wrong);
+        return Err(CaseError);
     }
     if page.is_empty() {
         return Ok(text.push_str("nothing")?);

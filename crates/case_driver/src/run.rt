@@ -1,5 +1,6 @@
 //! A run over one storage: each question is asked, and its answer written.
 
+use crate::case_error::{CaseError, write_answer};
 use crate::descriptions::call_in;
 use crate::forms::{write_changed, write_decoded, write_fronts};
 use crate::given::Given;
@@ -8,7 +9,6 @@ use crate::programs::{write_said, write_served};
 use crate::subject::Subject;
 use crate::values::{write_compatible, write_defined, write_hash, write_required, write_type};
 use crate::words::{first_word, named, number};
-use crate::wrong::{Wrong, write_answer};
 use crate::{accesses, starve};
 use iceoryx2_access::storage::{Service, Sha1Hasher, Storage};
 use iceoryx2_data::bytes::encode;
@@ -100,7 +100,7 @@ fn answer_value(
     given: &Given,
     (value, rest): (Value, &str),
     text: &mut String,
-) -> Result<(), Wrong> {
+) -> Result<(), CaseError> {
     match value {
         Value::Serve => write_served(alloc, given.over, &given.input, text),
         Value::Says => write_said(alloc, given.over, &given.input, text),
@@ -128,7 +128,7 @@ impl<S: Subject> Run<S> {
         given: &mut Given,
         question: &str,
         text: &mut String,
-    ) -> Result<(), Wrong> {
+    ) -> Result<(), CaseError> {
         let (word, rest) = first_word(question);
         match named(&QUESTIONS, word) {
             Ok(Question::Call) => self.call(alloc, given, question, text),
@@ -146,8 +146,8 @@ impl<S: Subject> Run<S> {
             Ok(Question::Clean) => self.storage.inner_mut().clean_up(number(rest)?, text),
             Ok(Question::Adopt) => self.storage.inner_mut().take_in(number(rest)?, text),
             Ok(Question::Value(value)) => answer_value(alloc, given, (value, rest), text),
-            Err(Wrong) if question.trim() == "counts" => Ok(self.write_counts(text)?),
-            Err(Wrong) => self.access(alloc, given, (word, rest), text),
+            Err(CaseError) if question.trim() == "counts" => Ok(self.write_counts(text)?),
+            Err(CaseError) => self.access(alloc, given, (word, rest), text),
         }
     }
 
@@ -158,7 +158,7 @@ impl<S: Subject> Run<S> {
         given: &mut Given,
         line: &str,
         text: &mut String,
-    ) -> Result<(), Wrong> {
+    ) -> Result<(), CaseError> {
         let call = call_in(alloc, line)?;
         let (pattern, _) = first_word(line);
         let name = call.name.as_str();
@@ -173,7 +173,7 @@ impl<S: Subject> Run<S> {
     }
 
     /// Closes a slot, and writes what that answers.
-    fn close(&mut self, slot: usize, text: &mut String) -> Result<(), Wrong> {
+    fn close(&mut self, slot: usize, text: &mut String) -> Result<(), CaseError> {
         match self.places.close(slot, &mut self.storage) {
             Closing::None(reply) => Ok(describe(&reply, slot, text)?),
             Closing::Whole => Ok(text.push_str("closed")?),
@@ -183,7 +183,7 @@ impl<S: Subject> Run<S> {
     }
 
     /// Abandons what a slot holds, and writes that, or that it holds nothing.
-    fn abandon(&mut self, slot: usize, text: &mut String) -> Result<(), Wrong> {
+    fn abandon(&mut self, slot: usize, text: &mut String) -> Result<(), CaseError> {
         match self.places.abandon(slot) {
             None => Ok(text.push_str("abandoned")?),
             Some(reply) => Ok(describe(&reply, slot, text)?),
@@ -197,9 +197,9 @@ impl<S: Subject> Run<S> {
         given: &mut Given,
         (name, rest): (&str, &str),
         text: &mut String,
-    ) -> Result<(), Wrong> {
+    ) -> Result<(), CaseError> {
         let Some(hash) = given.service else {
-            return Err(Wrong);
+            return Err(CaseError);
         };
         let (first, others) = first_word(rest);
         let (second, _) = first_word(others);
@@ -222,7 +222,7 @@ impl<S: Subject> Run<S> {
     }
 
     /// Writes what a slot holds.
-    fn write_slot(&self, slot: usize, text: &mut String) -> Result<(), Wrong> {
+    fn write_slot(&self, slot: usize, text: &mut String) -> Result<(), CaseError> {
         match self.places.factory(slot) {
             Some((number, description)) => Ok(write_factory(number, description, text)?),
             None => Ok(text.push_str("empty")?),

@@ -1,11 +1,11 @@
 //! A question that is asked while a request for memory is refused: the first one, the second one, and each further one, until
 //! none is. Each time the run begins anew.
 
+use crate::case_error::{CaseError, write_answer};
 use crate::given::Given;
 use crate::run::Run;
 use crate::storages::carry_out;
 use crate::subject::Subject;
-use crate::wrong::{Wrong, write_answer};
 use std::alloc::{AllocError, Global};
 use test_support::refusing::{MODES, Mode, Refused, end, refuse};
 
@@ -36,14 +36,14 @@ fn count_of(refused: Refused) -> &'static str {
 /// outside of what is asked, there is none.
 fn write_try(
     ((mode, number), refused): ((Mode, u16), Refused),
-    (done, question): (Result<(), Wrong>, &str),
+    (done, question): (Result<(), CaseError>, &str),
     answer: &str,
     text: &mut String,
 ) -> Result<(), AllocError> {
     let (mode, count) = (word_of(mode), count_of(refused));
     write!(text, "{mode} {number} {count}: ")?;
     match (done, refused) {
-        (Err(Wrong), Refused::One | Refused::More) => writeln!(text, "out of memory"),
+        (Err(CaseError), Refused::One | Refused::More) => writeln!(text, "out of memory"),
         (done, _) => write_answer(done, question, Some(answer), text),
     }
 }

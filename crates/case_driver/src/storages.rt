@@ -1,8 +1,8 @@
 //! Runs over each storage.
 
+use crate::case_error::write_answer;
 use crate::given::{Given, Over};
 use crate::run::run_lines;
-use crate::wrong::write_answer;
 use iceoryx2_journal::journal::Journal;
 use iceoryx2_large_table::kinds::Chunks;
 use iceoryx2_large_table::world::WorldOver;

@@ -1,11 +1,11 @@
 //! What is seen of the storages that runs are over.
 
-use crate::wrong::Wrong;
+use crate::case_error::CaseError;
 use iceoryx2_access::storage::Storage;
 use iceoryx2_description::description::ServiceHash;
 use iceoryx2_journal::cleaning::Cleaned;
 use iceoryx2_journal::journal::Journal;
-use iceoryx2_log::entry::{Deed, Entry as LogEntry};
+use iceoryx2_log::entry::{Entry as LogEntry, Operation};
 use iceoryx2_log::memory::MemoryLog;
 use iceoryx2_table::own_parts::OwnParts;
 use iceoryx2_table::table::TableOver;
@@ -41,10 +41,10 @@ pub trait Subject: Storage + Drop {
     fn held(&self, node: u64, hash: &ServiceHash) -> (bool, u64);
 
     /// Cleans up for a node of another process, and writes what was given back. Only a journal can.
-    fn clean_up(&mut self, node: u64, text: &mut String) -> Result<(), Wrong>;
+    fn clean_up(&mut self, node: u64, text: &mut String) -> Result<(), CaseError>;
 
     /// Makes such a node an own one, and writes whether it is.
-    fn take_in(&mut self, node: u64, text: &mut String) -> Result<(), Wrong>;
+    fn take_in(&mut self, node: u64, text: &mut String) -> Result<(), CaseError>;
 }
 
 impl<W: OwnParts> Subject for TableOver<W> {
@@ -63,12 +63,12 @@ impl<W: OwnParts> Subject for TableOver<W> {
         (self.has_tag(node, hash), self.tickets(node, hash))
     }
 
-    fn clean_up(&mut self, _node: u64, _text: &mut String) -> Result<(), Wrong> {
-        Err(Wrong)
+    fn clean_up(&mut self, _node: u64, _text: &mut String) -> Result<(), CaseError> {
+        Err(CaseError)
     }
 
-    fn take_in(&mut self, _node: u64, _text: &mut String) -> Result<(), Wrong> {
-        Err(Wrong)
+    fn take_in(&mut self, _node: u64, _text: &mut String) -> Result<(), CaseError> {
+        Err(CaseError)
     }
 }
 
@@ -91,19 +91,19 @@ impl Subject for PlainTable {
         )
     }
 
-    fn clean_up(&mut self, _node: u64, _text: &mut String) -> Result<(), Wrong> {
-        Err(Wrong)
+    fn clean_up(&mut self, _node: u64, _text: &mut String) -> Result<(), CaseError> {
+        Err(CaseError)
     }
 
-    fn take_in(&mut self, _node: u64, _text: &mut String) -> Result<(), Wrong> {
-        Err(Wrong)
+    fn take_in(&mut self, _node: u64, _text: &mut String) -> Result<(), CaseError> {
+        Err(CaseError)
     }
 }
 
 /// The number of the first lock, at which a journal's numbers begin.
 fn first_number(entries: &[LogEntry]) -> u64 {
     for entry in entries {
-        if let Deed::Lock { number } = entry.deed {
+        if let Operation::Lock { number } = entry.operation {
             return number;
         }
     }
@@ -151,7 +151,7 @@ impl Subject for Journal<MemoryLog> {
         (world.has_tag(node, hash), world.tickets(node, hash))
     }
 
-    fn clean_up(&mut self, node: u64, text: &mut String) -> Result<(), Wrong> {
+    fn clean_up(&mut self, node: u64, text: &mut String) -> Result<(), CaseError> {
         match self.clean(node) {
             Ok(Cleaned { releases, removals }) => {
                 Ok(write!(text, "{releases} releases, {removals} removals")?)
@@ -160,7 +160,7 @@ impl Subject for Journal<MemoryLog> {
         }
     }
 
-    fn take_in(&mut self, node: u64, text: &mut String) -> Result<(), Wrong> {
+    fn take_in(&mut self, node: u64, text: &mut String) -> Result<(), CaseError> {
         match self.adopt(node) {
             Ok(()) => Ok(text.push_str("adopted")?),
             Err(error) => Ok(write!(text, "{error}")?),
@@ -184,11 +184,11 @@ impl Subject for Script {
         (false, 0)
     }
 
-    fn clean_up(&mut self, _node: u64, _text: &mut String) -> Result<(), Wrong> {
-        Err(Wrong)
+    fn clean_up(&mut self, _node: u64, _text: &mut String) -> Result<(), CaseError> {
+        Err(CaseError)
     }
 
-    fn take_in(&mut self, _node: u64, _text: &mut String) -> Result<(), Wrong> {
-        Err(Wrong)
+    fn take_in(&mut self, _node: u64, _text: &mut String) -> Result<(), CaseError> {
+        Err(CaseError)
     }
 }

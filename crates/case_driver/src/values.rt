@@ -1,8 +1,8 @@
 //! Questions about attributes and types.
 
+use crate::case_error::CaseError;
 use crate::known::hash_of;
 use crate::words::{first_word, named, number};
-use crate::wrong::Wrong;
 use iceoryx2_attribute::attribute::{AttributeError, AttributeSpecifier, AttributeVerifier};
 use iceoryx2_description::description::{ServiceName, ServiceNameError};
 use iceoryx2_types::types::{MessageTypeDetails, TypeDetail, TypeDetailError, TypeVariant};
@@ -44,7 +44,7 @@ fn define(specifier: &mut AttributeSpecifier, pairs: &str) -> Result<(), (u64, A
 }
 
 /// Writes the pairs that are defined so, in their order, or the first refusal with its place.
-pub fn write_defined(alloc: Global, pairs: &str, text: &mut String) -> Result<(), Wrong> {
+pub fn write_defined(alloc: Global, pairs: &str, text: &mut String) -> Result<(), CaseError> {
     let mut specifier = AttributeSpecifier::new(alloc);
     if let Err((place, error)) = define(&mut specifier, pairs) {
         let name = name_of(error);
@@ -75,15 +75,15 @@ fn require(
 }
 
 /// Writes the first key that a set lacks of what is required, `PAIRS | KEYS | SET`, or that it is met.
-pub fn write_required(alloc: Global, text: &str, answer: &mut String) -> Result<(), Wrong> {
+pub fn write_required(alloc: Global, text: &str, answer: &mut String) -> Result<(), CaseError> {
     let Some((required, had)) = text.rsplit_once('|') else {
-        return Err(Wrong);
+        return Err(CaseError);
     };
     let mut verifier = AttributeVerifier::new(alloc);
     let mut set = AttributeSpecifier::new(alloc);
     for (words, are_had) in [(required, false), (had, true)] {
         if require(&mut verifier, &mut set, (words, are_had)).is_err() {
-            return Err(Wrong);
+            return Err(CaseError);
         }
     }
     match verifier.verify_requirements(set.attributes()) {
@@ -105,9 +105,9 @@ fn detail_in(
     alloc: Global,
     text: &str,
     separator: char,
-) -> Result<Result<TypeDetail, TypeDetailError>, Wrong> {
+) -> Result<Result<TypeDetail, TypeDetailError>, CaseError> {
     let Some((variant, name, size, alignment)) = parts_of(text, separator) else {
-        return Err(Wrong);
+        return Err(CaseError);
     };
     let variant = named(&VARIANTS, variant)?;
     let (size, alignment) = (number(size)?, number(alignment)?);
@@ -115,28 +115,28 @@ fn detail_in(
 }
 
 /// Writes a type as it is told, or why there is none.
-pub fn write_type(alloc: Global, text: &str, answer: &mut String) -> Result<(), Wrong> {
+pub fn write_type(alloc: Global, text: &str, answer: &mut String) -> Result<(), CaseError> {
     match detail_in(alloc, text, ' ')? {
         Ok(detail) => {
             let (variant, name) = (variant_word(&detail), detail.type_name());
             let (size, alignment) = (detail.size(), detail.alignment());
             Ok(write!(answer, "{variant} {name} {size} {alignment}")?)
         }
-        Err(TypeDetailError::OutOfMemory) => Err(Wrong),
+        Err(TypeDetailError::OutOfMemory) => Err(CaseError),
         Err(error) => Ok(write!(answer, "{error}")?),
     }
 }
 
 /// One of the types of a message, `VARIANT:NAME:SIZE:ALIGNMENT`.
-fn part_in(alloc: Global, part: Option<&str>) -> Result<TypeDetail, Wrong> {
+fn part_in(alloc: Global, part: Option<&str>) -> Result<TypeDetail, CaseError> {
     match detail_in(alloc, part.unwrap_or(""), ':')? {
         Ok(detail) => Ok(detail),
-        Err(_) => Err(Wrong),
+        Err(_) => Err(CaseError),
     }
 }
 
 /// A message with the types of the header, the user header and the payload, with commas between them.
-fn message_in(alloc: Global, text: &str) -> Result<MessageTypeDetails, Wrong> {
+fn message_in(alloc: Global, text: &str) -> Result<MessageTypeDetails, CaseError> {
     let mut parts = text.split(',');
     Ok(MessageTypeDetails {
         header: part_in(alloc, parts.next())?,
@@ -146,23 +146,23 @@ fn message_in(alloc: Global, text: &str) -> Result<MessageTypeDetails, Wrong> {
 }
 
 /// Writes whether a message is compatible to another, `MESSAGE | MESSAGE`.
-pub fn write_compatible(alloc: Global, text: &str, answer: &mut String) -> Result<(), Wrong> {
+pub fn write_compatible(alloc: Global, text: &str, answer: &mut String) -> Result<(), CaseError> {
     let Some((message, other)) = text.split_once('|') else {
-        return Err(Wrong);
+        return Err(CaseError);
     };
     let is_compatible = message_in(alloc, message)?.is_compatible_to(&message_in(alloc, other)?);
     Ok(write!(answer, "{is_compatible}")?)
 }
 
 /// Writes the hash of the service `PATTERN NAME`, or why there is no such name.
-pub fn write_hash(alloc: Global, service: &str, answer: &mut String) -> Result<(), Wrong> {
+pub fn write_hash(alloc: Global, service: &str, answer: &mut String) -> Result<(), CaseError> {
     let (_pattern, name) = first_word(service);
     match ServiceName::new(alloc, text_in(name)) {
         Ok(_name) => {
             let hash = hash_of(alloc, service)?.to_text(alloc)?;
             Ok(answer.push_str(hash.as_str())?)
         }
-        Err(ServiceNameError::OutOfMemory) => Err(Wrong),
+        Err(ServiceNameError::OutOfMemory) => Err(CaseError),
         Err(error) => Ok(write!(answer, "{error}")?),
     }
 }

@@ -1,6 +1,6 @@
 //! Words of a line.
 
-use crate::wrong::Wrong;
+use crate::case_error::CaseError;
 use std::alloc::Global;
 
 /// The first word of a text and the rest, both without spaces around. The rest is empty where there is no second word.
@@ -13,15 +13,15 @@ pub fn first_word(text: &str) -> (&str, &str) {
 }
 
 /// The number that a word is.
-pub fn number(word: &str) -> Result<u64, Wrong> {
+pub fn number(word: &str) -> Result<u64, CaseError> {
     match word.parse::<u64>() {
         Ok(number) => Ok(number),
-        Err(_) => Err(Wrong),
+        Err(_) => Err(CaseError),
     }
 }
 
 /// The numbers of a text. A dash is none of them.
-pub fn numbers(alloc: Global, text: &str) -> Result<Vec<u64>, Wrong> {
+pub fn numbers(alloc: Global, text: &str) -> Result<Vec<u64>, CaseError> {
     let mut numbers = Vec::new(alloc);
     for word in text.split_whitespace() {
         if word != "-" {
@@ -32,11 +32,11 @@ pub fn numbers(alloc: Global, text: &str) -> Result<Vec<u64>, Wrong> {
 }
 
 /// What a word means, by rows.
-pub fn named<T: Copy>(rows: &[(&str, T)], word: &str) -> Result<T, Wrong> {
+pub fn named<T: Copy>(rows: &[(&str, T)], word: &str) -> Result<T, CaseError> {
     for (name, meant) in rows {
         if *name == word {
             return Ok(*meant);
         }
     }
-    Err(Wrong)
+    Err(CaseError)
 }

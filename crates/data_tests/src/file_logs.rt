@@ -9,7 +9,7 @@ use iceoryx2_file_log::cursor::State;
 use iceoryx2_file_log::error::{FileFault, FileLogError};
 use iceoryx2_file_log::file_log::FileLog;
 use iceoryx2_file_log::options::{FileLogOptions, Sharing};
-use iceoryx2_log::entry::{Deed, Entry};
+use iceoryx2_log::entry::{Entry, Operation};
 use iceoryx2_log::log::{Log, LogError};
 use std::os::unix::fs::{MetadataExt, symlink};
 use std::random::RandomSource;
@@ -110,9 +110,13 @@ fn refused(rt: &HostRuntime, path: &str) -> Option<FileFault> {
 /// Node 2 took the lock of the service of the hash, whose number is 5.
 pub fn lock() -> Entry {
     let hash = ServiceHash(HASH);
-    let deed = Deed::Lock { number: 5 };
+    let operation = Operation::Lock { number: 5 };
     let node = 2;
-    Entry { node, hash, deed }
+    Entry {
+        node,
+        hash,
+        operation,
+    }
 }
 
 /// Holds the log, appends the entry, and lets go of it.

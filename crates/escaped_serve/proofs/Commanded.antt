@@ -11,7 +11,7 @@ use Rattle.negotiate_lines.specs.declared.leaf.Form.TheVariants as form
 use Rattle.negotiate_lines.specs.declared.line.Line.{Line}
 use Rattle.negotiate_lines.specs.declared.line.Line.TheVariants as line
 use Rattle.negotiate_lines.specs.declared.question.Request.TheVariants as request
-use Rattle.negotiate_lines.specs.declared.wrong.Wrong.{Wrong}
+use Rattle.negotiate_lines.specs.declared.line_error.LineError.{LineError}
 use Rattle.negotiate_lines.specs.Commands.{IsCallOf, IsCommandOf}
 use Rattle.negotiate_lines.specs.Lines.{IsLineIn}
 use Rattle.negotiate_lines.specs.Questions.{begins_question}
@@ -31,7 +31,7 @@ command_begins terms (command.Call call) is = call_begins call.settings terms ca
 command_begins terms (command.Close slot) is = ap begins_question is.are
 command_begins terms command.List is = ap begins_question is
 
-wrong_begins : (terms : List (List ℕ)) (w : Wrong) → begins_otherwise (line.NotACommand w) ≡ false → WrongTerms form.Escaped terms w → begins_question terms ≡ false
+wrong_begins : (terms : List (List ℕ)) (w : LineError) → begins_otherwise (line.NotACommand w) ≡ false → WrongTerms form.Escaped terms w → begins_question terms ≡ false
 wrong_begins terms w other (no_command rest are none) = absurd cc
 wrong_begins terms w other (behind_list rest are) = ap begins_question are
 wrong_begins terms w other (at_slot rest are is) = ap begins_question are
@@ -40,7 +40,7 @@ wrong_begins terms w other (event rest are is) = ap begins_question are
 wrong_begins terms w other (publish_subscribe rest are is) = ap begins_question are
 wrong_begins terms w other (request_response rest are is) = ap begins_question are
 
-in_bytes : (bytes : List ℕ) (w : Wrong) → begins_otherwise (line.NotACommand w) ≡ false → IsWrong form.Escaped bytes w → IsUtf8 bytes
+in_bytes : (bytes : List ℕ) (w : LineError) → begins_otherwise (line.NotACommand w) ≡ false → IsWrong form.Escaped bytes w → IsUtf8 bytes
     → begins_question (terms_of bytes) ≡ false
 in_bytes bytes w other (not_utf8 none) utf8 = absurd (none utf8)
 in_bytes bytes w other (in_terms is wrongs) utf8 = wrong_begins (terms_of bytes) w other wrongs

@@ -7,7 +7,7 @@ use Rattle.negotiate_lines.specs.Lines.{IsLine}
 use Rattle.negotiate_lines.specs.WrongTexts.{IsWrongText}
 use Rattle.negotiate_lines.specs.declared.line.Line.{Line}
 use Rattle.negotiate_lines.specs.declared.line.Line.TheVariants as line
-use Rattle.negotiate_lines.specs.declared.wrong.Wrong.{Wrong}
+use Rattle.negotiate_lines.specs.declared.line_error.LineError.{LineError}
 use Rattle.negotiate_serve.specs.Replies.{GrowsBy}
 use Rattle.negotiate_serve.specs.Served.{GrowsByAnswer}
 use Rattle.negotiate_serve.specs.Transcripts.{Answering, blank, answered as answered_line}
@@ -30,7 +30,7 @@ module _ {M : Type 0} (Answers : Answering M) (m : M) (bytes old new : List ℕ)
       (plain_reply lent, answered (answered_line (subst (IsLine bytes) is is_line) adds.is_answer) (ap plain_reply told_is), grown)
   plain_answered n c before told lent is empty adds same (Err e) grown = tt
 
-  pub plain_wrong : (w : Wrong) (told lent : List ℕ) → l ≡ line.NotACommand w → IsWrongText w told → lent ≡ told
+  pub plain_wrong : (w : LineError) (told lent : List ℕ) → l ≡ line.NotACommand w → IsWrongText w told → lent ≡ told
       → (r : Result (Unit {0}) AllocError) → OnOk r (new ≡ old ++ (codes "wrong " ++ (leaf_of lent ++ codes "\n"))) → OnOk r (GrowsBy (λ added. AnswersPlain Answers m bytes added m) old new)
   plain_wrong w told lent is tells same (Ok x) grown = (wrong_reply lent, wrong (subst (IsLine bytes) is is_line) tells (ap wrong_reply same), grown)
   plain_wrong w told lent is tells same (Err e) grown = tt

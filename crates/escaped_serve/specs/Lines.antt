@@ -11,8 +11,8 @@ use Rattle.negotiate_lines.specs.declared.question.Question.{Question}
 use Rattle.negotiate_lines.specs.declared.question.Question.TheVariants as question
 use Rattle.negotiate_lines.specs.declared.question.Request.{Request}
 use Rattle.negotiate_lines.specs.declared.question.Request.TheVariants as request
-use Rattle.negotiate_lines.specs.declared.wrong.Wrong.{Wrong}
-use Rattle.negotiate_lines.specs.declared.wrong.Wrong.TheVariants as wrong_with
+use Rattle.negotiate_lines.specs.declared.line_error.LineError.{LineError}
+use Rattle.negotiate_lines.specs.declared.line_error.LineError.TheVariants as wrong_with
 use Rattle.negotiate_serve.specs.Transcripts.{Answering, AnswersLineBy, IsReplyToWrong}
 
 -- how a question is answered by a text, from a state to the next one
@@ -41,7 +41,7 @@ module _ {M : Type 0} (Answers : Answering M) where
   pub data AnswersPlain (m : M) (bytes : List ℕ) : (text : List ℕ) → M → Type 0 where
     answered : {told text : List ℕ} {n : M} → AnswersLineBy Answers m bytes told n → text ≡ plain_reply told
         → AnswersPlain m bytes text n
-    wrong : {w : Wrong} {told text : List ℕ} → IsLine bytes (line.NotACommand w) → IsWrongText w told
+    wrong : {w : LineError} {told text : List ℕ} → IsLine bytes (line.NotACommand w) → IsWrongText w told
         → text ≡ wrong_reply told → AnswersPlain m bytes text m
 
   module _ (AnswersEscaped : Answering M) (Asks : AnsweringQuestions M) where

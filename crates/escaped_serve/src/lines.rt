@@ -16,8 +16,8 @@ use crate::answerer::Asked;
 use negotiate_lines::escape::escape_word;
 use negotiate_lines::leaf::{Form, escape_leaf};
 use negotiate_lines::line::{Line, parse, parse_in};
+use negotiate_lines::line_error::LineError;
 use negotiate_lines::question::{Question, Request, parse_request};
-use negotiate_lines::wrong::Wrong;
 use negotiate_lines::wrong_text::wrong_text;
 use negotiate_serve::answerer::Answerer;
 use negotiate_serve::lines::{Lines, reply_wrong};
@@ -74,7 +74,7 @@ fn begins_otherwise(known: &Line<'_>) -> bool
     ensures { result ≡ begins_otherwise known.now }
 {
     match known {
-        Line::NotACommand(Wrong::NoSuchCommand(_)) => true,
+        Line::NotACommand(LineError::NoSuchCommand(_)) => true,
         _ => false,
     }
 }

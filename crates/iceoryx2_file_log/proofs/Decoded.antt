@@ -6,9 +6,9 @@ use Rattle.std.proofs.lemmas.List.{append-nil}
 use Rattle.std.proofs.lemmas.List.Elements.{All-nil, All-cons, All-head, All-tail, All-append}
 use Rattle.std.proofs.lemmas.Option.{none-some}
 use Rattle.iceoryx2_data.proofs.PartForms.{IsBytes, some_is}
-use Rattle.iceoryx2_log.specs.declared.entry.Deed.{Deed}
-use Rattle.iceoryx2_log.specs.declared.entry.Deed.TheVariants.{MakeTag, RemoveTag, Lock, MakeSegment, RemoveSegment}
-use Rattle.iceoryx2_log.specs.declared.entry.Deed.TheVariants.{RemoveDescription, Publish, OpenSegment, Release, Spend, Moved}
+use Rattle.iceoryx2_log.specs.declared.entry.Operation.{Operation}
+use Rattle.iceoryx2_log.specs.declared.entry.Operation.TheVariants.{MakeTag, RemoveTag, Lock, MakeSegment, RemoveSegment}
+use Rattle.iceoryx2_log.specs.declared.entry.Operation.TheVariants.{RemoveDescription, Publish, OpenSegment, Release, Spend, Moved}
 use Rattle.iceoryx2_log.specs.declared.entry.Entry.{Entry}
 use Rattle.iceoryx2_log.specs.Form.{IsForm, Begins}
 use Rattle.iceoryx2_log.specs.Reading.{entry_at}
@@ -22,7 +22,7 @@ abbrev Read : Type 0
 Read = Entry × List ℕ
 
 abbrev pub Stays : Entry → Type 0
-Stays e = e.deed ≢ Moved
+Stays e = e.operation ≢ Moved
 
 -- ---- bytes
 
@@ -53,7 +53,7 @@ is_bytes bytes a i = a i
 
 -- ---- marks
 
-stays_on : (d : Deed) → d ≢ Moved → marks d ≡ false
+stays_on : (d : Operation) → d ≢ Moved → marks d ≡ false
 stays_on MakeTag apart = refl
 stays_on RemoveTag apart = refl
 stays_on (Lock n) apart = refl
@@ -69,23 +69,23 @@ stays_on Moved apart = absurd (apart refl)
 abbrev chosen : Bool → Read → Option Read
 chosen b x = cond b None (Some x)
 
-apart_from : (d : Deed) → marks d ≡ false → d ≢ Moved
+apart_from : (d : Operation) → marks d ≡ false → d ≢ Moved
 apart_from d e is = let moved : true ≡ false = sym (ap marks is) ∙ e in absurd cc
 
 -- An entry in front that is no mark is found.
 found_again : (bytes : List ℕ) (e : Entry) (count : ℕ) → (b : Begins bytes e count) → Stays e → entry_in bytes ≡ Some (e, b.rest)
 found_again bytes e count b stays =
-    ap unmarked (read_again bytes e count b) ∙ ap (λ (m : Bool). chosen m (e, b.rest)) (stays_on e.deed stays)
+    ap unmarked (read_again bytes e count b) ∙ ap (λ (m : Bool). chosen m (e, b.rest)) (stays_on e.operation stays)
 
-quiet_where : (bytes : List ℕ) (x : Read) (m : Bool) → entry_at bytes ≡ Some x → marks x.0.deed ≡ m → AreBytes bytes
+quiet_where : (bytes : List ℕ) (x : Read) (m : Bool) → entry_at bytes ≡ Some x → marks x.0.operation ≡ m → AreBytes bytes
     → IsQuiet bytes → chosen m x ≡ None
 quiet_where bytes x true e is a quiet = refl
 quiet_where bytes x false e is a quiet =
-    absurd (quiet x.0 (length bytes - length x.1) (begins bytes x (is_bytes bytes a) e) (apart_from x.0.deed is))
+    absurd (quiet x.0 (length bytes - length x.1) (begins bytes x (is_bytes bytes a) e) (apart_from x.0.operation is))
 
 none_read : (bytes : List ℕ) (o : Option Read) → entry_at bytes ≡ o → AreBytes bytes → IsQuiet bytes → unmarked o ≡ None
 none_read bytes None e a quiet = refl
-none_read bytes (Some x) e a quiet = quiet_where bytes x (marks x.0.deed) e refl a quiet
+none_read bytes (Some x) e a quiet = quiet_where bytes x (marks x.0.operation) e refl a quiet
 
 quiet_none : (bytes : List ℕ) → AreBytes bytes → IsQuiet bytes → entry_in bytes ≡ None
 quiet_none bytes a quiet = none_read bytes (entry_at bytes) refl a quiet
@@ -96,21 +96,21 @@ none_quiet bytes none e count b stays = absurd (none-some (e, b.rest) (sym none 
 -- what was found, which is no mark
 record Found (bytes : List ℕ) (x : Read) : Type 0 where
   read : entry_at bytes ≡ Some x
-  stays : marks x.0.deed ≡ false
+  stays : marks x.0.operation ≡ false
 
-found_where : (bytes : List ℕ) (x y : Read) (m : Bool) → entry_at bytes ≡ Some x → marks x.0.deed ≡ m → chosen m x ≡ Some y
+found_where : (bytes : List ℕ) (x y : Read) (m : Bool) → entry_at bytes ≡ Some x → marks x.0.operation ≡ m → chosen m x ≡ Some y
     → Found bytes y
 found_where bytes x y true e is some = absurd cc
 found_where bytes x y false e is some =
     let same : x ≡ y = some_is x y some in
     record {
       read = e ∙ ap (λ (z : Read). Some z) same;
-      stays = sym (ap (λ (z : Read). marks z.0.deed) same) ∙ is;
+      stays = sym (ap (λ (z : Read). marks z.0.operation) same) ∙ is;
     }
 
 some_read : (bytes : List ℕ) (o : Option Read) (y : Read) → entry_at bytes ≡ o → unmarked o ≡ Some y → Found bytes y
 some_read bytes None y e some = absurd cc
-some_read bytes (Some x) y e some = found_where bytes x y (marks x.0.deed) e refl some
+some_read bytes (Some x) y e some = found_where bytes x y (marks x.0.operation) e refl some
 
 -- ---- none
 
@@ -190,7 +190,7 @@ stands_at n bytes (Some x) e le a next =
     record {
       forms = b.form ++ s.forms;
       rest = s.rest;
-      no_marks = All-cons Stays x.0 (entries_by n x.1) (apart_from x.0.deed found.stays) s.no_marks;
+      no_marks = All-cons Stays x.0 (entries_by n x.1) (apart_from x.0.operation found.stays) s.no_marks;
       are_forms = (b.form, s.forms, b.is_form, refl, s.are_forms);
       parts = parts ∙ ap (λ (r : List ℕ). b.form ++ r) s.parts ∙ sym (append_assoc b.form s.forms s.rest);
       quiet = s.quiet;

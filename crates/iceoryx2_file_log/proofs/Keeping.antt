@@ -7,7 +7,7 @@ use Rattle.std.proofs.lemmas.List.{append-nil, append_cancel_left, take_at, drop
 use Rattle.std.proofs.lemmas.List.Elements.{recursion_from_All}
 use Rattle.iceoryx2_data.proofs.PartForms.{some_is}
 use Rattle.iceoryx2_log.specs.declared.entry.Entry.{Entry}
-use Rattle.iceoryx2_log.specs.declared.entry.Deed.TheVariants.{Moved}
+use Rattle.iceoryx2_log.specs.declared.entry.Operation.TheVariants.{Moved}
 use Rattle.iceoryx2_log.specs.Form.{IsForm, Begins}
 use Rattle.iceoryx2_log.proofs.Found.{read_again, one_form}
 use Rattle.iceoryx2_file_log.specs.declared.header.TheConstants.{HEADER_LENGTH}
@@ -65,11 +65,11 @@ begin_of e entries forms rest bytes are parts = record {
 
 -- The bytes begin with no entry but a mark.
 abbrev pub IsQuiet : List ℕ → Type 0
-IsQuiet bytes = (e : Entry) (count : ℕ) → Begins bytes e count → e.deed ≢ Moved → ⊥
+IsQuiet bytes = (e : Entry) (count : ℕ) → Begins bytes e count → e.operation ≢ Moved → ⊥
 
 -- Where some entries are all that bytes begin with, but for a mark, other entries with which they begin are a front of
 -- those.
-front_forms : (es fs : List Entry) (f g r s : List ℕ) → ByRecursion (λ e. e.deed ≢ Moved) es → AreForms es f → AreForms fs g
+front_forms : (es fs : List Entry) (f g r s : List ℕ) → ByRecursion (λ e. e.operation ≢ Moved) es → AreForms es f → AreForms fs g
     → f ++ r ≡ g ++ s → IsQuiet s → (more : List ℕ) × (g ≡ f ++ more)
 front_forms [] fs f g r s apart a b e quiet = (g, ap (λ (x : List ℕ). x ++ g) (sym a))
 front_forms (x ∷ es) [] f g r s apart a b e quiet =
@@ -97,7 +97,7 @@ quiet_cut bytes (inr m) e count b apart =
       counted = refl;
     } in
     let same = same_front bytes m.mark e (length bytes) count whole b in
-    apart (sym (ap (λ (p : Read). p.0.deed) same) ∙ m.moves)
+    apart (sym (ap (λ (p : Read). p.0.operation) same) ∙ m.moves)
 
 pub cut_keeps : CutKeeps
 cut_keeps at taken bytes t may entries front x =
@@ -114,7 +114,7 @@ cut_keeps at taken bytes t may entries front x =
     append_cancel_left (take at bytes) (drop at bytes) t.rest (take-append-drop at bytes ∙ t.parts) in
     let quiet : IsQuiet t.rest = subst (λ (b : List ℕ). IsQuiet b) rest (quiet_cut (drop at bytes) may) in
     let m = front_forms entries taken x.forms t.forms x.rest t.rest
-    (recursion_from_All (λ (e : Entry). e.deed ≢ Moved) entries x.no_marks) x.are_forms t.are_forms behind quiet in
+    (recursion_from_All (λ (e : Entry). e.operation ≢ Moved) entries x.no_marks) x.are_forms t.are_forms behind quiet in
     before entries front bytes (take at bytes) m.0 x
     (t.is_front ∙ ap (λ (b : List ℕ). b ++ t.forms) (sym header) ∙ ap (λ (b : List ℕ). x.header ++ b) m.1
     ∙ sym (append_assoc x.header x.forms m.0) ∙ ap (λ (b : List ℕ). b ++ m.0) (sym x.is_front))

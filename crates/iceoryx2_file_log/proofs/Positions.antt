@@ -7,7 +7,7 @@ use Rattle.std.proofs.lemmas.List.{append-nil, length-drop, length-take-le, take
 use Rattle.std.proofs.lemmas.List.Elements.{recursion_from_All, All-nil, All-append}
 use Rattle.std.proofs.Math.Seq.{take-append-add}
 use Rattle.iceoryx2_log.specs.declared.entry.Entry.{Entry}
-use Rattle.iceoryx2_log.specs.declared.entry.Deed.TheVariants.{Moved}
+use Rattle.iceoryx2_log.specs.declared.entry.Operation.TheVariants.{Moved}
 use Rattle.iceoryx2_log.specs.Form.{IsForm, Begins}
 use Rattle.iceoryx2_log.specs.Log.{Contents, WhereKnown, Grows, Accepts, Appends, Shows, first}
 use Rattle.iceoryx2_log.specs.Log as log
@@ -405,10 +405,10 @@ shows_one begins p (Some k) e count f s b stays =
     (sym (ap first (entries_first (unread_bytes p k.bytes) e count (unread_are_bytes p k f) here stays)), refl)
 
 -- What begins with a mark begins with no entry that is none.
-quiet_mark : (bytes : List ℕ) (m : Entry) (n : ℕ) → Begins bytes m n → m.deed ≡ Moved → IsQuiet bytes
+quiet_mark : (bytes : List ℕ) (m : Entry) (n : ℕ) → Begins bytes m n → m.operation ≡ Moved → IsQuiet bytes
 quiet_mark bytes m n b moves e count x stays =
     let same = same_front bytes m e n count b x in
-    stays (sym (ap (λ (r : Entry × List ℕ). r.0.deed) same) ∙ moves)
+    stays (sym (ap (λ (r : Entry × List ℕ). r.0.operation) same) ∙ moves)
 
 none_shown : (begins : ℕ) (p : Place) (k : Known) → Fits p k → IsQuiet (unread_bytes p k.bytes)
     → Shows None (contents_in begins p k.bytes) (contents_in begins p k.bytes)

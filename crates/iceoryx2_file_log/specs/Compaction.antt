@@ -1,7 +1,7 @@
 -- How a log is compacted: its mark, its snapshot, and from which length on one is tried.
 use Rattle.std.specs.Prelude.{ℕ, ◌≡◌, ◌≢◌, ◌+◌, ◌-◌, ◌*◌, ◌^◌, ◌<◌, ◌≤◌, ◌⊎◌, List, [], ◌∷◌, ◌++◌, length, min, bit_and}
 use Rattle.iceoryx2_log.specs.declared.entry.Entry.{Entry}
-use Rattle.iceoryx2_log.specs.declared.entry.Deed.TheVariants.{Moved}
+use Rattle.iceoryx2_log.specs.declared.entry.Operation.TheVariants.{Moved}
 use Rattle.iceoryx2_log.specs.Form.{IsForm, Begins}
 use Rattle.iceoryx2_file_log.specs.declared.error.FileFault.{FileFault}
 use Rattle.iceoryx2_file_log.specs.declared.error.FileFault.TheVariants as fault
@@ -17,13 +17,13 @@ use Rattle.iceoryx2_file_log.specs.Remainder.{IsTorn}
 -- The bytes are the form of a mark, and nothing else.
 pub record IsMark (bytes : List ℕ) : Type 0 where
   pub mark : Entry
-  pub moves : mark.deed ≡ Moved
+  pub moves : mark.operation ≡ Moved
   pub is_form : IsForm mark bytes
 
 -- The bytes begin with a mark, which has so many of them.
 pub record BeginsWithMark (bytes : List ℕ) (count : ℕ) : Type 0 where
   pub mark : Entry
-  pub moves : mark.deed ≡ Moved
+  pub moves : mark.operation ≡ Moved
   pub begins : Begins bytes mark count
 
 -- What may be cut off where it is all that is left of a file: what is torn, or a mark.

@@ -1,19 +1,19 @@
 -- The entries that bytes come to.
 use Rattle.std.specs.Prelude.{ℕ, zero, suc, Bool, true, false, List, [], ◌∷◌, length, Option, Some, None, if◌then◌else◌}
-use Rattle.iceoryx2_log.specs.declared.entry.Deed.{Deed}
-use Rattle.iceoryx2_log.specs.declared.entry.Deed.TheVariants.{Moved}
+use Rattle.iceoryx2_log.specs.declared.entry.Operation.{Operation}
+use Rattle.iceoryx2_log.specs.declared.entry.Operation.TheVariants.{Moved}
 use Rattle.iceoryx2_log.specs.declared.entry.Entry.{Entry}
 use Rattle.iceoryx2_log.specs.Reading.{entry_at}
 
--- whether the deed marks that the log goes on in another file
-abbrev pub marks : Deed → Bool
+-- whether the operation marks that the log goes on in another file
+abbrev pub marks : Operation → Bool
 marks Moved = true
 marks other = false
 
 -- no entry where it is a mark
 abbrev pub unmarked : Option (Entry × List ℕ) → Option (Entry × List ℕ)
 unmarked None = None
-unmarked (Some x) = if marks x.0.deed then None else Some x
+unmarked (Some x) = if marks x.0.operation then None else Some x
 
 -- the entry with which the bytes begin, where it is no mark, and the bytes behind it
 abbrev pub entry_in : List ℕ → Option (Entry × List ℕ)

@@ -2,7 +2,7 @@
 use Rattle.std.specs.Prelude.{ℕ, ◌+◌, ◌≡◌, ◌≢◌, ◌<◌, ◌≤◌, ◌⊎◌, Bool, true, false, List, ◌++◌, length, string_bytes}
 use Rattle.std.specs.Prelude.{Option, Some, None, Result, Err, IfOk, IfErr, IsTrue}
 use Rattle.iceoryx2_log.specs.declared.entry.Entry.{Entry}
-use Rattle.iceoryx2_log.specs.declared.entry.Deed.TheVariants.{Moved}
+use Rattle.iceoryx2_log.specs.declared.entry.Operation.TheVariants.{Moved}
 use Rattle.iceoryx2_log.specs.declared.log.LogError.{LogError}
 use Rattle.iceoryx2_log.specs.declared.log.LogError.TheVariants as log
 use Rattle.iceoryx2_log.specs.Form.{IsForm, Begins}
@@ -121,7 +121,7 @@ SparesEntries old new = (new.file_length ≡ old.file_length) ⊎ (IsCutOff old 
 -- A mark is no entry of the log, and is never found as one.
 abbrev pub IsNoMark : Option Entry → Type 0
 IsNoMark None = Unit {0}
-IsNoMark (Some e) = e.deed ≢ Moved
+IsNoMark (Some e) = e.operation ≢ Moved
 
 -- Where there is no entry the whole snapshot is taken over.
 abbrev pub IsPastSnapshot : Option Entry → Header → Place → Type 0

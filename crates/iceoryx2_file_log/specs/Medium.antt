@@ -2,7 +2,7 @@
 use Rattle.std.specs.Prelude.{ℕ, ◌≡◌, ◌≢◌, ◌+◌, ◌<◌, ◌≤◌, ◌⊎◌, Bool, true, false, List, ◌++◌, length, take, drop, All}
 use Rattle.std.specs.Prelude.{slice_index, Option, Some, None, Result, Ok, Err}
 use Rattle.iceoryx2_log.specs.declared.entry.Entry.{Entry}
-use Rattle.iceoryx2_log.specs.declared.entry.Deed.TheVariants.{Moved}
+use Rattle.iceoryx2_log.specs.declared.entry.Operation.TheVariants.{Moved}
 use Rattle.iceoryx2_file_log.specs.declared.error.FileFault.{FileFault}
 use Rattle.iceoryx2_file_log.specs.declared.header.TheConstants.{HEADER_LENGTH}
 use Rattle.iceoryx2_file_log.specs.Compaction.{AreForms, MayBeCut}
@@ -36,7 +36,7 @@ pub record BeginWith (entries : List Entry) (front bytes : List ℕ) : Type 0 wh
   pub rest : List ℕ
   pub is_long : length header ≡ HEADER_LENGTH
   pub are_forms : AreForms entries forms
-  pub no_marks : All (λ e. e.deed ≢ Moved) entries
+  pub no_marks : All (λ e. e.operation ≢ Moved) entries
   pub is_front : front ≡ header ++ forms
   pub parts : bytes ≡ front ++ rest
 

@@ -2,7 +2,7 @@
 use Rattle.std.specs.Prelude.{ℕ, ◌≡◌, ◌≢◌, ◌≤◌, ◌⊎◌, Bool, true, false, List, ◌++◌, length, take, drop}
 use Rattle.std.specs.Prelude.{Option, Some, None, Result, Ok, Err}
 use Rattle.iceoryx2_log.specs.declared.entry.Entry.{Entry}
-use Rattle.iceoryx2_log.specs.declared.entry.Deed.TheVariants.{Moved}
+use Rattle.iceoryx2_log.specs.declared.entry.Operation.TheVariants.{Moved}
 use Rattle.iceoryx2_log.specs.Form.{Begins}
 use Rattle.iceoryx2_log.specs.Log.{Contents}
 use Rattle.iceoryx2_file_log.specs.declared.error.FileFault.{FileFault}
@@ -44,7 +44,7 @@ SameContents o p m q = (begins : ℕ) → contents_of begins m q ≡ contents_of
 
 -- What was found is the entry at the position, which is no mark, or nothing was.
 abbrev pub IsFound : ℕ → List ℕ → Type 0
-IsFound count rest = (count ≡ 0) ⊎ ((e : Entry) × Begins rest e count × (e.deed ≢ Moved))
+IsFound count rest = (count ≡ 0) ⊎ ((e : Entry) × Begins rest e count × (e.operation ≢ Moved))
 
 -- While it is held: what was read ahead stands there, and the rule is kept.
 pub record Holding (p : Place) (k : Known) : Type 0 where

@@ -1,7 +1,7 @@
 //! What of a compaction needs no file: the mark, the bytes of a snapshot, and when one is tried.
 
 ghost use Rattle.std.specs.Prelude.{◌≡◌, ◌≢◌, ◌<◌, ◌↔◌, IsTrue, IfOk, IfErr, All};
-ghost use Rattle.iceoryx2_log.specs.declared.entry.Deed.TheVariants as deed;
+ghost use Rattle.iceoryx2_log.specs.declared.entry.Operation.TheVariants as operation;
 ghost use Rattle.iceoryx2_file_log.specs.declared.error.FileFault.TheVariants as fault;
 ghost use Rattle.iceoryx2_file_log.specs.Compaction.{IsMark, AreForms, HasSnapshot, IsSnapshot, IsLong, IsWorth};
 ghost use Rattle.iceoryx2_file_log.specs.Compaction.{worth_from, first_tried, later, snapshot_end, KeepsAccess};
@@ -9,7 +9,7 @@ ghost use Rattle.iceoryx2_file_log.specs.Compaction.{worth_from, first_tried, la
 use crate::error::FileFault;
 use crate::header::{self, HEADER_LENGTH, Header, LogName};
 use iceoryx2_description::description::ServiceHash;
-use iceoryx2_log::entry::{Deed, Entry};
+use iceoryx2_log::entry::{Entry, Operation};
 use iceoryx2_log::form::{EncodeError, encode};
 use std::alloc::{AllocError, Global};
 
@@ -29,10 +29,10 @@ const GROUP_BITS: u32 = 0o060;
 
 /// Whether the entry marks that the log goes on in another place.
 pub fn is_mark(entry: &Entry) -> bool
-    ensures { IsTrue result ↔ (entry.now.deed ≡ deed.Moved) }
+    ensures { IsTrue result ↔ (entry.now.operation ≡ operation.Moved) }
 {
-    match entry.deed {
-        Deed::Moved => true,
+    match entry.operation {
+        Operation::Moved => true,
         _ => false,
     }
 }
@@ -41,12 +41,12 @@ pub fn is_mark(entry: &Entry) -> bool
 fn mark() -> Entry
     ensures node { result.node ≡ 0 }
     ensures hash { All (λ b. b ≡ 0) result.hash.0 }
-    ensures deed { result.deed ≡ deed.Moved }
+    ensures operation { result.operation ≡ operation.Moved }
 {
     Entry {
         node: 0,
         hash: ServiceHash([0; 20]),
-        deed: Deed::Moved,
+        operation: Operation::Moved,
     }
 }
 

@@ -6,7 +6,7 @@
 
 ghost use Rattle.std.specs.Prelude.{◌≡◌, ◌≢◌, ◌≤◌, ◌<◌, ◌⊎◌, ℕ, false, None, Ok, Err, length, nat_lt};
 ghost use Rattle.std.specs.Prelude.{IfOk, IfErr, OnOk, OnErr, IfSome};
-ghost use Rattle.iceoryx2_log.specs.declared.entry.Deed.TheVariants as deed;
+ghost use Rattle.iceoryx2_log.specs.declared.entry.Operation.TheVariants as operation;
 ghost use Rattle.iceoryx2_log.specs.Form.{IsForm};
 ghost use Rattle.iceoryx2_log.specs.Log.{WhereKnown, Grows, Shows, Accepts};
 ghost use Rattle.iceoryx2_log.specs.Log as log;
@@ -233,7 +233,7 @@ fn write_form<M: Medium>(
     requires held { cursor.old.state ≡ state.Held }
     requires all_read { cursor.old.file_length ≡ cursor.old.position }
     requires form { IsForm entry.now form.now }
-    requires no_mark { entry.now.deed ≢ deed.Moved }
+    requires no_mark { entry.now.operation ≢ operation.Moved }
     ensures ok { OnOk result (cursor.new ≡ appended (length form.now) cursor.old) }
     ensures err { OnErr result (cursor.new ≡ cursor.old) }
     ensures fits { OnOk result (IfSome (M.known medium.new) (Fits cursor.new)) }
@@ -271,7 +271,7 @@ pub fn append<M: Medium>(
 ) -> Result<(), FileFault>
     requires { IfSome (M.known medium.old) (Fits cursor.old) }
     ensures ok { OnOk result (Appends entry.now cursor.old cursor.new) }
-    ensures no_mark { OnOk result (entry.now.deed ≢ deed.Moved) }
+    ensures no_mark { OnOk result (entry.now.operation ≢ operation.Moved) }
     ensures err { OnErr result (cursor.new ≡ cursor.old) }
     ensures not_held { IfSome (why_not_held cursor.old.state) (λ why. result ≡ Err why) }
     ensures fits { OnOk result (IfSome (M.known medium.new) (Fits cursor.new)) }

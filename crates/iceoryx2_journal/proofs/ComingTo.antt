@@ -9,7 +9,7 @@ use Rattle.iceoryx2_world.specs.World.{World}
 use Rattle.iceoryx2_world.specs.Agreement.{KeepsAgreement}
 use Rattle.iceoryx2_world.specs.Access.{IsOwnPart}
 use Rattle.iceoryx2_world.proofs.agreement.Accesses.{own_keeps, keeps_along}
-use Rattle.iceoryx2_log.specs.declared.entry.Deed.TheVariants as deed
+use Rattle.iceoryx2_log.specs.declared.entry.Operation.TheVariants as operation
 use Rattle.iceoryx2_log.specs.declared.entry.Entry.{Entry}
 use Rattle.iceoryx2_table.specs.Spending.{Spends}
 use Rattle.iceoryx2_journal.specs.Follow.{IsEntryOf}
@@ -36,7 +36,7 @@ parted (x ∷ es) fs {w} (spends {u} {es = rest} y n is p c) e =
     let same : y ≡ x = cc in
     let left : rest ≡ es ++ fs = cc in
     let s = parted es fs c left in
-    let is_spent = subst (λ (z : Entry). z.deed ≡ deed.Spend n) same is in
+    let is_spent = subst (λ (z : Entry). z.operation ≡ operation.Spend n) same is in
     let spent = subst (λ (z : Entry). Spends z.node z.hash n w u) same p in
     record { mid = s.mid; first = spends x n is_spent spent s.first; second = s.second }
 

@@ -14,8 +14,8 @@ use Rattle.iceoryx2_table.specs.Recorded.{IsRecordedPart, untouched, recorded, d
 use Rattle.iceoryx2_table.proofs.Recording.{is_own_part}
 use Rattle.iceoryx2_table.specs.Spending.{Spends, LocksOrGivesUp, locks_and_gives_up}
 use Rattle.iceoryx2_table.proofs.NumbersSpent.{spending_is_locking}
-use Rattle.iceoryx2_log.specs.declared.entry.Deed.{Deed}
-use Rattle.iceoryx2_log.specs.declared.entry.Deed.TheVariants as deed
+use Rattle.iceoryx2_log.specs.declared.entry.Operation.{Operation}
+use Rattle.iceoryx2_log.specs.declared.entry.Operation.TheVariants as operation
 use Rattle.iceoryx2_log.specs.declared.entry.Entry.{Entry}
 use Rattle.iceoryx2_journal.specs.declared.follow.FollowError.{FollowError}
 use Rattle.iceoryx2_journal.specs.declared.follow.FollowError.TheVariants as errors
@@ -48,60 +48,60 @@ pub fetch_acts : {i : ℕ} {h : ServiceHash} {w v : World} → MayFetch i h w v 
 fetch_acts {i} {h} {w} (inl e) = subst (ActsAlone i w) (sym e) acts_not
 fetch_acts {i} {h} (inr x) = acts_once_more (letter.Fetch i h x.0) acts_not refl x.1
 
--- An access with its answer, from where its deed is prepared.
+-- An access with its answer, from where its operation is prepared.
 pub judged : {R : Type 0} {before after : R} {G F W : Type 0} (w : World) {u v : World} (e : Entry) (l : Letter) (r : Result (Unit {0}) FollowError) → Judges G F W r
-    → Prepares e.node e.hash e.deed w u → Asks e.node e.hash e.deed l → (G → IsEntryOf e l) → (IsEntryOf e l → G) → (LacksMemory l → W) → (F → is_written u l ≡ false)
+    → Prepares e.node e.hash e.operation w u → Asks e.node e.hash e.operation l → (G → IsEntryOf e l) → (IsEntryOf e l → G) → (LacksMemory l → W) → (F → is_written u l ≡ false)
     → IsRecordedPart {R = R} (λ _ _. Unit {0}) (λ _ _. ⊥) u l v before after → Follows e r w v
 judged w {u} e l (Ok x) j p asks is_entry is_only lacks is_refused part = granted u l p (is_entry j) (is_own_part (λ _ _ no. no) part)
-judged w e l (Err errors.OutOfMemory) j p asks is_entry is_only lacks is_refused part = subst (λ x. Prepares e.node e.hash e.deed w x) (sym (unwritten (is_refused j) part)) p
+judged w e l (Err errors.OutOfMemory) j p asks is_entry is_only lacks is_refused part = subst (λ x. Prepares e.node e.hash e.operation w x) (sym (unwritten (is_refused j) part)) p
 judged w {u} e l (Err errors.Disagrees) j p asks is_entry is_only lacks is_refused part = answered u l p asks (λ is. j.0 (is_only is)) (λ want. j.1 (lacks want)) (is_own_part (λ _ _ no. no) part)
 
--- What comes before a deed's access is the node's too.
-pub prepare_acts : {i : ℕ} (h : ServiceHash) (d : Deed) {w v : World} → Prepares i h d w v → ActsAlone i w v
-prepare_acts h (deed.OpenSegment n t) p = fetch_acts p
-prepare_acts {i} h deed.MakeTag {w} p = subst (ActsAlone i w) (sym p) acts_not
-prepare_acts {i} h deed.RemoveTag {w} p = subst (ActsAlone i w) (sym p) acts_not
-prepare_acts {i} h (deed.Lock n) {w} p = subst (ActsAlone i w) (sym p) acts_not
-prepare_acts {i} h (deed.MakeSegment n m) {w} p = subst (ActsAlone i w) (sym p) acts_not
-prepare_acts {i} h deed.RemoveSegment {w} p = subst (ActsAlone i w) (sym p) acts_not
-prepare_acts {i} h deed.RemoveDescription {w} p = subst (ActsAlone i w) (sym p) acts_not
-prepare_acts {i} h (deed.Publish n b) {w} p = subst (ActsAlone i w) (sym p) acts_not
-prepare_acts {i} h (deed.Release t n) {w} p = subst (ActsAlone i w) (sym p) acts_not
-prepare_acts {i} h (deed.Spend n) {w} p = subst (ActsAlone i w) (sym p) acts_not
-prepare_acts {i} h deed.Moved {w} p = subst (ActsAlone i w) (sym p) acts_not
+-- What comes before a operation's access is the node's too.
+pub prepare_acts : {i : ℕ} (h : ServiceHash) (d : Operation) {w v : World} → Prepares i h d w v → ActsAlone i w v
+prepare_acts h (operation.OpenSegment n t) p = fetch_acts p
+prepare_acts {i} h operation.MakeTag {w} p = subst (ActsAlone i w) (sym p) acts_not
+prepare_acts {i} h operation.RemoveTag {w} p = subst (ActsAlone i w) (sym p) acts_not
+prepare_acts {i} h (operation.Lock n) {w} p = subst (ActsAlone i w) (sym p) acts_not
+prepare_acts {i} h (operation.MakeSegment n m) {w} p = subst (ActsAlone i w) (sym p) acts_not
+prepare_acts {i} h operation.RemoveSegment {w} p = subst (ActsAlone i w) (sym p) acts_not
+prepare_acts {i} h operation.RemoveDescription {w} p = subst (ActsAlone i w) (sym p) acts_not
+prepare_acts {i} h (operation.Publish n b) {w} p = subst (ActsAlone i w) (sym p) acts_not
+prepare_acts {i} h (operation.Release t n) {w} p = subst (ActsAlone i w) (sym p) acts_not
+prepare_acts {i} h (operation.Spend n) {w} p = subst (ActsAlone i w) (sym p) acts_not
+prepare_acts {i} h operation.Moved {w} p = subst (ActsAlone i w) (sym p) acts_not
 
-asks_caller : (i : ℕ) (h : ServiceHash) (d : Deed) (l : Letter) → Asks i h d l → acting_node l ≡ i
-asks_caller i h deed.MakeTag l g = ap acting_node g.1
-asks_caller i h deed.RemoveTag l g = ap acting_node g.1
-asks_caller i h (deed.Lock n) l g = ap acting_node g.1
-asks_caller i h (deed.MakeSegment n m) l g = ap acting_node g.1
-asks_caller i h deed.RemoveSegment l g = ap acting_node g.1
-asks_caller i h deed.RemoveDescription l g = ap acting_node g.1
-asks_caller i h (deed.Publish n b) l g = ap acting_node g.3
-asks_caller i h (deed.OpenSegment n t) l g = ap acting_node g.1
-asks_caller i h (deed.Release t n) l g = ap acting_node g.1
-asks_caller i h (deed.Spend n) l g = absurd g
-asks_caller i h deed.Moved l g = absurd g
+asks_caller : (i : ℕ) (h : ServiceHash) (d : Operation) (l : Letter) → Asks i h d l → acting_node l ≡ i
+asks_caller i h operation.MakeTag l g = ap acting_node g.1
+asks_caller i h operation.RemoveTag l g = ap acting_node g.1
+asks_caller i h (operation.Lock n) l g = ap acting_node g.1
+asks_caller i h (operation.MakeSegment n m) l g = ap acting_node g.1
+asks_caller i h operation.RemoveSegment l g = ap acting_node g.1
+asks_caller i h operation.RemoveDescription l g = ap acting_node g.1
+asks_caller i h (operation.Publish n b) l g = ap acting_node g.3
+asks_caller i h (operation.OpenSegment n t) l g = ap acting_node g.1
+asks_caller i h (operation.Release t n) l g = ap acting_node g.1
+asks_caller i h (operation.Spend n) l g = absurd g
+asks_caller i h operation.Moved l g = absurd g
 
 -- Where the world doesn't answer what the entry has, only the node has acted.
 pub differs_acts : {w v : World} (e : Entry) → Differs w e v → ActsAlone e.node w v
-differs_acts e (answered u l p asks other lacks part) = acts_once_more l (prepare_acts e.hash e.deed p) (asks_caller e.node e.hash e.deed l asks) part
+differs_acts e (answered u l p asks other lacks part) = acts_once_more l (prepare_acts e.hash e.operation p) (asks_caller e.node e.hash e.operation l asks) part
 differs_acts e (malformed n bytes is none same) = stays_alone same
 differs_acts e (unspent n is none same) = stays_alone same
 differs_acts e (mark is same) = stays_alone same
 
-entry_caller : (i : ℕ) (h : ServiceHash) (d : Deed) (l : Letter) → Grants i h d l → acting_node l ≡ i
-entry_caller i h deed.MakeTag l g = ap acting_node g
-entry_caller i h deed.RemoveTag l g = ap acting_node g
-entry_caller i h (deed.Lock n) l g = ap acting_node g
-entry_caller i h (deed.MakeSegment n m) l g = ap acting_node g
-entry_caller i h deed.RemoveSegment l g = ap acting_node g
-entry_caller i h deed.RemoveDescription l g = ap acting_node g
-entry_caller i h (deed.Publish n b) l g = ap acting_node g.2
-entry_caller i h (deed.OpenSegment n t) l g = ap acting_node g
-entry_caller i h (deed.Release t n) l g = ap acting_node g.1
-entry_caller i h (deed.Spend n) l g = absurd g
-entry_caller i h deed.Moved l g = absurd g
+entry_caller : (i : ℕ) (h : ServiceHash) (d : Operation) (l : Letter) → Grants i h d l → acting_node l ≡ i
+entry_caller i h operation.MakeTag l g = ap acting_node g
+entry_caller i h operation.RemoveTag l g = ap acting_node g
+entry_caller i h (operation.Lock n) l g = ap acting_node g
+entry_caller i h (operation.MakeSegment n m) l g = ap acting_node g
+entry_caller i h operation.RemoveSegment l g = ap acting_node g
+entry_caller i h operation.RemoveDescription l g = ap acting_node g
+entry_caller i h (operation.Publish n b) l g = ap acting_node g.2
+entry_caller i h (operation.OpenSegment n t) l g = ap acting_node g
+entry_caller i h (operation.Release t n) l g = ap acting_node g.1
+entry_caller i h (operation.Spend n) l g = absurd g
+entry_caller i h operation.Moved l g = absurd g
 
 each_as : {A : Type 0} (P Q : A → Type 0) → ((x : A) → P x → Q x) → (xs : List A) → Each P xs → Each Q xs
 each_as P Q f [] e = tt
@@ -127,17 +127,17 @@ spend_acts {i} {h = h} s =
 
 -- An entry that is followed is accesses of its node.
 pub followed_acts : {w v : World} (e : Entry) → IsFollowed w e v → ActsAlone e.node w v
-followed_acts e (granted u l p is part) = acts_once_more l (prepare_acts e.hash e.deed p) (entry_caller e.node e.hash e.deed l is) part
+followed_acts e (granted u l p is part) = acts_once_more l (prepare_acts e.hash e.operation p) (entry_caller e.node e.hash e.operation l is) part
 followed_acts e (spent n is s) = spend_acts s
 
-pub release_only : (t i : ℕ) (h : ServiceHash) (n : ℕ) (a : Result Released ReleaseError) → Grants i h (deed.Release t n) (letter.Release t i h n a) → is_ok a ≡ true
+pub release_only : (t i : ℕ) (h : ServiceHash) (n : ℕ) (a : Result Released ReleaseError) → Grants i h (operation.Release t n) (letter.Release t i h n a) → is_ok a ≡ true
 release_only t i h n (Ok left) g = refl
 release_only t i h n (Err e) g = let x = g.1 in absurd (cc)
 
-pub release_granted : (t i : ℕ) (h : ServiceHash) (n : ℕ) (a : Result Released ReleaseError) → is_ok a ≡ true → Grants i h (deed.Release t n) (letter.Release t i h n a)
+pub release_granted : (t i : ℕ) (h : ServiceHash) (n : ℕ) (a : Result Released ReleaseError) → is_ok a ≡ true → Grants i h (operation.Release t n) (letter.Release t i h n a)
 release_granted t i h n (Ok left) ok = (left, refl)
 release_granted t i h n (Err e) ok = absurd (cc)
 
--- An entry that has this deed.
-pub same_entry : (e : Entry) (d : Deed) (r : Result (Unit {0}) FollowError) (w v : World) → e.deed ≡ d → Follows (record { node = e.node; hash = e.hash; deed = d }) r w v → Follows e r w v
-same_entry e d r w v is f = subst (λ x. Follows (record { node = e.node; hash = e.hash; deed = x }) r w v) (sym is) f
+-- An entry that has this operation.
+pub same_entry : (e : Entry) (d : Operation) (r : Result (Unit {0}) FollowError) (w v : World) → e.operation ≡ d → Follows (record { node = e.node; hash = e.hash; operation = d }) r w v → Follows e r w v
+same_entry e d r w v is f = subst (λ x. Follows (record { node = e.node; hash = e.hash; operation = x }) r w v) (sym is) f

@@ -34,8 +34,8 @@ use Rattle.iceoryx2_world.proofs.agreement.Accesses.{own_keeps, later_trans}
 use Rattle.iceoryx2_world.proofs.agreement.Stands.{faulty_stands, published_stands}
 use Rattle.iceoryx2_world.proofs.agreement.Empty.{empty_agrees}
 use Rattle.iceoryx2_world.proofs.agreement.Interference.{rely_same}
-use Rattle.iceoryx2_log.specs.declared.entry.Deed.{Deed}
-use Rattle.iceoryx2_log.specs.declared.entry.Deed.TheVariants as deed
+use Rattle.iceoryx2_log.specs.declared.entry.Operation.{Operation}
+use Rattle.iceoryx2_log.specs.declared.entry.Operation.TheVariants as operation
 use Rattle.iceoryx2_log.specs.declared.entry.Entry.{Entry}
 use Rattle.iceoryx2_log.specs.Log.{Contents}
 use Rattle.iceoryx2_table.specs.Spending.{Spends, LocksOrGivesUp}
@@ -88,18 +88,18 @@ under_everyone {w} p = record { between = w; before = rely_same everyone w; part
 part_stands : (f : Registered) {w v : World} (l : Letter) → IsOwnPart w l v → Spares f l → Agrees w → Stands w f → Stands v f
 part_stands f {w} {v} l p spares old is = faulty_stands {own = everyone} w l v f refl (under_everyone p) spares old is
 
-entry_spares : (f : Registered) (i : ℕ) (h : ServiceHash) (d : Deed) (l : Letter) → Grants i h d l → (record { node = i; hash = h; deed = d } ≢ release_of f) → Spares f l
-entry_spares f i h (deed.Release t n) l g other = subst (Spares f) (sym g.1) (λ ticket node hash number. other (λ j. record { node = node j; hash = hash j; deed = deed.Release (ticket j) (number j) }))
-entry_spares f i h (deed.Publish n b) l g other = subst (Spares f) (sym g.2) tt
-entry_spares f i h deed.MakeTag l g other = subst (Spares f) (sym g) tt
-entry_spares f i h deed.RemoveTag l g other = subst (Spares f) (sym g) tt
-entry_spares f i h (deed.Lock n) l g other = subst (Spares f) (sym g) tt
-entry_spares f i h (deed.MakeSegment n m) l g other = subst (Spares f) (sym g) tt
-entry_spares f i h deed.RemoveSegment l g other = subst (Spares f) (sym g) tt
-entry_spares f i h deed.RemoveDescription l g other = subst (Spares f) (sym g) tt
-entry_spares f i h (deed.OpenSegment n t) l g other = subst (Spares f) (sym g) tt
-entry_spares f i h (deed.Spend n) l g other = absurd g
-entry_spares f i h deed.Moved l g other = absurd g
+entry_spares : (f : Registered) (i : ℕ) (h : ServiceHash) (d : Operation) (l : Letter) → Grants i h d l → (record { node = i; hash = h; operation = d } ≢ release_of f) → Spares f l
+entry_spares f i h (operation.Release t n) l g other = subst (Spares f) (sym g.1) (λ ticket node hash number. other (λ j. record { node = node j; hash = hash j; operation = operation.Release (ticket j) (number j) }))
+entry_spares f i h (operation.Publish n b) l g other = subst (Spares f) (sym g.2) tt
+entry_spares f i h operation.MakeTag l g other = subst (Spares f) (sym g) tt
+entry_spares f i h operation.RemoveTag l g other = subst (Spares f) (sym g) tt
+entry_spares f i h (operation.Lock n) l g other = subst (Spares f) (sym g) tt
+entry_spares f i h (operation.MakeSegment n m) l g other = subst (Spares f) (sym g) tt
+entry_spares f i h operation.RemoveSegment l g other = subst (Spares f) (sym g) tt
+entry_spares f i h operation.RemoveDescription l g other = subst (Spares f) (sym g) tt
+entry_spares f i h (operation.OpenSegment n t) l g other = subst (Spares f) (sym g) tt
+entry_spares f i h (operation.Spend n) l g other = absurd g
+entry_spares f i h operation.Moved l g other = absurd g
 
 -- an access that locks or gives a lock up
 lock_spares : (f : Registered) (i : ℕ) (h : ServiceHash) (l : Letter) → LocksOrGivesUp i h l → Spares f l
@@ -119,7 +119,7 @@ comes_stands f es replay.nothing others old is = is
 comes_stands f es {w} (fetches {u} i h a p c) others old is =
     comes_stands f es c others (own_keeps w (letter.Fetch i h a) u p old).0 (part_stands f (letter.Fetch i h a) p tt old is)
 comes_stands f (x ∷ es) {w} (happens {u} e l granted p c) others old is =
-    comes_stands f es c others.1 (own_keeps w l u p old).0 (part_stands f l p (entry_spares f e.node e.hash e.deed l granted others.0) old is)
+    comes_stands f es c others.1 (own_keeps w l u p old).0 (part_stands f l p (entry_spares f e.node e.hash e.operation l granted others.0) old is)
 comes_stands f (x ∷ es) {w} (spends {u} e n is s c) others old standing =
     comes_stands f es c others.1 (spent_keeps s old).0 (spent_stands f s old standing)
 
@@ -176,9 +176,9 @@ publish_uses w v i h n d t o old =
           ],
     )
 
--- what is granted where a deed publishes
-publishes : (i : ℕ) (h : ServiceHash) (d : Deed) (l : Letter) (n : ℕ) → Grants i h d l → published_number d ≡ Some n → (x : Description) × (l ≡ letter.Publish i h n x (Ok n))
-publishes i h (deed.Publish m b) l n g e = let same : m ≡ n = cc in (g.0, g.2 ∙ ap (λ k. letter.Publish i h k g.0 (Ok k)) same)
+-- what is granted where a operation publishes
+publishes : (i : ℕ) (h : ServiceHash) (d : Operation) (l : Letter) (n : ℕ) → Grants i h d l → published_number d ≡ Some n → (x : Description) × (l ≡ letter.Publish i h n x (Ok n))
+publishes i h (operation.Publish m b) l n g e = let same : m ≡ n = cc in (g.0, g.2 ∙ ap (λ k. letter.Publish i h k g.0 (Ok k)) same)
 publishes i h _ l n g e = absurd (cc)
 
 cons_apart : (n : ℕ) (o : Option ℕ) (ns : List ℕ) → ((m : ℕ) → o ≡ Some m → nat_eq n m ≡ false) → AllByRecursion (λ m. nat_eq n m ≡ false) ns → AllByRecursion (λ m. nat_eq n m ≡ false) (cons_option o ns)
@@ -196,13 +196,13 @@ never_again n es fs {w} (fetches {u} i h a p c) old behind used =
     let kept = own_keeps w (letter.Fetch i h a) u p old in never_again n es fs c kept.0 behind (used_later n kept.1 used)
 never_again n (y ∷ es) fs {w} (happens {u} e l granted p c) old behind used =
     let kept = own_keeps w l u p old in
-    cons_apart n (published_number e.deed) (published_numbers (es ++ fs)) (λ m is.
-    let x = publishes e.node e.hash e.deed l m granted is in
+    cons_apart n (published_number e.operation) (published_numbers (es ++ fs)) (λ m is.
+    let x = publishes e.node e.hash e.operation l m granted is in
     let locked = publish_locked w u e.node e.hash m x.0 m (subst (λ k. IsOwnPart w k u) x.1 p) old in
     other_number n m (λ same. used.1 e.hash (locked ∙ ap (λ k. Some (row.Locked k)) (sym same)))) (never_again n es fs c kept.0 behind (used_later n kept.1 used))
 never_again n (y ∷ es) fs {w} (spends {u} e m is s c) old behind used =
     let kept = spent_keeps s old in
-    let none : published_number e.deed ≡ None = ap published_number is in
+    let none : published_number e.operation ≡ None = ap published_number is in
     subst (λ o. AllByRecursion (λ k. nat_eq n k ≡ false) (cons_option o (published_numbers (es ++ fs)))) (sym none) (never_again n es fs c kept.0 behind (used_later n kept.1 used))
 
 -- No number behind is used at the end, and there each is published once.
@@ -216,11 +216,11 @@ each_once es fs replay.nothing old behind = behind.once
 each_once es fs {w} (fetches {u} i h a p c) old behind = each_once es fs c (own_keeps w (letter.Fetch i h a) u p old).0 behind
 each_once (y ∷ es) fs {w} (happens {u} e l granted p c) old behind =
     let kept = own_keeps w l u p old in
-    cons_distinct (published_number e.deed) (published_numbers (es ++ fs)) (λ m is.
-    let x = publishes e.node e.hash e.deed l m granted is in
+    cons_distinct (published_number e.operation) (published_numbers (es ++ fs)) (λ m is.
+    let x = publishes e.node e.hash e.operation l m granted is in
     never_again m es fs c kept.0 (behind.apart m) (publish_uses w u e.node e.hash m x.0 m (subst (λ k. IsOwnPart w k u) x.1 p) old)) (each_once es fs c kept.0 behind)
 each_once (y ∷ es) fs {w} (spends {u} e m is s c) old behind =
-    let none : published_number e.deed ≡ None = ap published_number is in
+    let none : published_number e.operation ≡ None = ap published_number is in
     subst (λ o. IsDistinct nat_eq (cons_option o (published_numbers (es ++ fs)))) (sym none) (each_once es fs c (spent_keeps s old).0 behind)
 
 none_behind : (v : World) → OnceBehind v []

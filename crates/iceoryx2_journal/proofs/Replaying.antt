@@ -9,8 +9,8 @@ use Rattle.iceoryx2_world.specs.World.{World, empty_world}
 use Rattle.iceoryx2_world.specs.Agreement.{Agrees}
 use Rattle.iceoryx2_world.specs.Access.{IsOwnPart}
 use Rattle.iceoryx2_world.proofs.agreement.Empty.{empty_agrees}
-use Rattle.iceoryx2_log.specs.declared.entry.Deed.{Deed}
-use Rattle.iceoryx2_log.specs.declared.entry.Deed.TheVariants as deed
+use Rattle.iceoryx2_log.specs.declared.entry.Operation.{Operation}
+use Rattle.iceoryx2_log.specs.declared.entry.Operation.TheVariants as operation
 use Rattle.iceoryx2_log.specs.declared.entry.Entry.{Entry}
 use Rattle.iceoryx2_log.specs.Log.{Contents, WhereKnown, Appends}
 use Rattle.iceoryx2_journal.specs.declared.taking.Stop.{Stop}
@@ -41,22 +41,22 @@ comes_both (spends e n is s c) d = spends e n is s (comes_both c d)
 comes_same : {w v : World} → v ≡ w → ComesTo w [] v
 comes_same {w} same = subst (λ x. ComesTo w [] x) (sym same) nothing
 
-prepared : (i : ℕ) (h : ServiceHash) (d : Deed) {w v : World} → Prepares i h d w v → ComesTo w [] v
-prepared i h (deed.OpenSegment n t) (inl same) = comes_same same
-prepared i h (deed.OpenSegment n t) (inr x) = fetches i h x.0 x.1 nothing
-prepared i h deed.MakeTag p = comes_same p
-prepared i h deed.RemoveTag p = comes_same p
-prepared i h (deed.Lock n) p = comes_same p
-prepared i h (deed.MakeSegment n m) p = comes_same p
-prepared i h deed.RemoveSegment p = comes_same p
-prepared i h deed.RemoveDescription p = comes_same p
-prepared i h (deed.Publish n b) p = comes_same p
-prepared i h (deed.Release t n) p = comes_same p
-prepared i h (deed.Spend n) p = comes_same p
-prepared i h deed.Moved p = comes_same p
+prepared : (i : ℕ) (h : ServiceHash) (d : Operation) {w v : World} → Prepares i h d w v → ComesTo w [] v
+prepared i h (operation.OpenSegment n t) (inl same) = comes_same same
+prepared i h (operation.OpenSegment n t) (inr x) = fetches i h x.0 x.1 nothing
+prepared i h operation.MakeTag p = comes_same p
+prepared i h operation.RemoveTag p = comes_same p
+prepared i h (operation.Lock n) p = comes_same p
+prepared i h (operation.MakeSegment n m) p = comes_same p
+prepared i h operation.RemoveSegment p = comes_same p
+prepared i h operation.RemoveDescription p = comes_same p
+prepared i h (operation.Publish n b) p = comes_same p
+prepared i h (operation.Release t n) p = comes_same p
+prepared i h (operation.Spend n) p = comes_same p
+prepared i h operation.Moved p = comes_same p
 
 followed_comes : {w v : World} (e : Entry) → IsFollowed w e v → ComesTo w (e ∷ []) v
-followed_comes e (granted u l p is part) = comes_both (prepared e.node e.hash e.deed p) (happens e l is part nothing)
+followed_comes e (granted u l p is part) = comes_both (prepared e.node e.hash e.operation p) (happens e l is part nothing)
 followed_comes e (spent n is s) = spends e n is s nothing
 
 pub entries_come : {w v : World} {es : List Entry} → Run IsFollowed w es v → ComesTo w es v
@@ -150,7 +150,7 @@ reached_goes p q w u v es k c d (taking.strays lost) = strays lost
 stops_come : {nodes : List ℕ} {c : Option Contents} {s : Stop} {w v : World} (over : Bool) → over ≡ false → over ≡ ends s → Stops nodes c w s v → ComesTo w [] v
 stops_come over going is_over (unread is same) = comes_same same
 stops_come over going is_over (astray is unknown same) = comes_same same
-stops_come over going is_over (starved e is front f p) = prepared e.node e.hash e.deed p
+stops_come over going is_over (starved e is front f p) = prepared e.node e.hash e.operation p
 stops_come over going is_over (own e is front f same) = let x = ap ends is in absurd (cc)
 stops_come over going is_over (disagrees e is front f a) = let x = ap ends is in absurd (cc)
 

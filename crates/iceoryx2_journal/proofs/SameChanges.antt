@@ -29,8 +29,8 @@ use Rattle.iceoryx2_world.specs.Access.{NodeView, Change, IsAnswer, IsSureAnswer
 use Rattle.iceoryx2_world.specs.Access.{has_lock, has_made, lock_of, make_of, make_answer, remove_answer, publishing_of, publish_answer}
 use Rattle.iceoryx2_world.specs.Access.{need, open_refusal, join_refusal, opening_of, open_answer, is_ticket, release_of, release_with}
 use Rattle.iceoryx2_world.proofs.AccessCases.{same_number}
-use Rattle.iceoryx2_log.specs.declared.entry.Deed.{Deed}
-use Rattle.iceoryx2_log.specs.declared.entry.Deed.TheVariants as deed
+use Rattle.iceoryx2_log.specs.declared.entry.Operation.{Operation}
+use Rattle.iceoryx2_log.specs.declared.entry.Operation.TheVariants as operation
 use Rattle.iceoryx2_journal.specs.Follow.{Grants}
 use Rattle.iceoryx2_table.specs.Same.{settled}
 
@@ -181,34 +181,34 @@ module _ (i : ℕ) (h : ServiceHash) (r : Option Row) (g : Option Segment) (k : 
   same_tag false c d p q = one_answer Tagging.OutOfMemory (Ok (Made, tag_becomes true)) (Ok (Made, tag_becomes true)) Made Made c d refl p q
 
   -- the change of an entry's access, granted
-  pub one_change : (x y : Phase) → settled x ≡ settled y → (a : Deed) (l o : Letter) (c d : Change) → Grants i h a l → Grants i h a o → IsNodeAnswer i h (view_at x) l c → IsNodeAnswer i h (view_at y) o d → c ≡ d
-  one_change x y e deed.MakeTag l o c d f w p q =
+  pub one_change : (x y : Phase) → settled x ≡ settled y → (a : Operation) (l o : Letter) (c d : Change) → Grants i h a l → Grants i h a o → IsNodeAnswer i h (view_at x) l c → IsNodeAnswer i h (view_at y) o d → c ≡ d
+  one_change x y e operation.MakeTag l o c d f w p q =
       same_tag t c d (subst (λ z. IsNodeAnswer i h (view_at x) z c) f p) (subst (λ z. IsNodeAnswer i h (view_at y) z d) w q)
-  one_change x y e deed.RemoveTag l o c d f w p q =
+  one_change x y e operation.RemoveTag l o c d f w p q =
       let a = subst (λ z. IsNodeAnswer i h (view_at x) z c) f p in
       let b = subst (λ z. IsNodeAnswer i h (view_at y) z d) w q in a.1 ∙ sym b.1
-  one_change x y e (deed.Lock n) l o c d f w p q =
+  one_change x y e (operation.Lock n) l o c d f w p q =
       one_answer Locking.OutOfMemory (lock_of i h (view_at x).view r) (lock_of i h (view_at y).view r) n n c d (same_lock_of r x y e)
       (subst (λ z. IsNodeAnswer i h (view_at x) z c) f p) (subst (λ z. IsNodeAnswer i h (view_at y) z d) w q)
-  one_change x y e (deed.MakeSegment n s) l o c d f w p q =
+  one_change x y e (operation.MakeSegment n s) l o c d f w p q =
       one_answer Making.OutOfMemory (make_answer i h (view_at x) n s) (make_answer i h (view_at y) n s) tt tt c d (same_make n s x y e)
       (subst (λ z. IsNodeAnswer i h (view_at x) z c) f p) (subst (λ z. IsNodeAnswer i h (view_at y) z d) w q)
-  one_change x y e deed.RemoveSegment l o c d f w p q =
+  one_change x y e operation.RemoveSegment l o c d f w p q =
       one_sure_answer (remove_answer i h (view_at x) act.RemoveSegment) (remove_answer i h (view_at y) act.RemoveSegment) tt tt c d (ap (or_refused Removing.Other tt) (same_step act.RemoveSegment x y refl e))
       (subst (λ z. IsNodeAnswer i h (view_at x) z c) f p) (subst (λ z. IsNodeAnswer i h (view_at y) z d) w q)
-  one_change x y e deed.RemoveDescription l o c d f w p q =
+  one_change x y e operation.RemoveDescription l o c d f w p q =
       one_sure_answer (remove_answer i h (view_at x) act.RemoveDescription) (remove_answer i h (view_at y) act.RemoveDescription) tt tt c d (ap (or_refused Removing.Other tt) (same_step act.RemoveDescription x y refl e))
       (subst (λ z. IsNodeAnswer i h (view_at x) z c) f p) (subst (λ z. IsNodeAnswer i h (view_at y) z d) w q)
-  one_change x y e (deed.Publish n bytes) l o c d f w p q =
+  one_change x y e (operation.Publish n bytes) l o c d f w p q =
       let a = subst (λ z. IsNodeAnswer i h (view_at x) z c) f.2 p in
       let b = subst (λ z. IsNodeAnswer i h (view_at y) z d) w.2 q in
       let same : f.0 ≡ w.0 = one_description bytes f.0 w.0 f.1 w.1 in
       one_answer Publishing.OutOfMemory (publish_answer i h (view_at x) n f.0) (publish_answer i h (view_at y) n w.0) n n c d
       (same_publish n f.0 x y e ∙ ap (publish_answer i h (view_at y) n) same) a.1 b.1
-  one_change x y e (deed.OpenSegment n u) l o c d f w p q =
+  one_change x y e (operation.OpenSegment n u) l o c d f w p q =
       same_open n u u x y c d e (subst (λ z. IsNodeAnswer i h (view_at x) z c) f p) (subst (λ z. IsNodeAnswer i h (view_at y) z d) w q)
-  one_change x y e (deed.Release u n) l o c d f w p q =
+  one_change x y e (operation.Release u n) l o c d f w p q =
       one_sure_answer (release_with i h (view_at x) u n) (release_with i h (view_at y) u n) f.0 w.0 c d (same_release u n x y e)
       (subst (λ z. IsNodeAnswer i h (view_at x) z c) f.1 p) (subst (λ z. IsNodeAnswer i h (view_at y) z d) w.1 q)
-  one_change x y e (deed.Spend n) l o c d f w p q = absurd f
-  one_change x y e deed.Moved l o c d f w p q = absurd f
+  one_change x y e (operation.Spend n) l o c d f w p q = absurd f
+  one_change x y e operation.Moved l o c d f w p q = absurd f

@@ -21,8 +21,8 @@ use Rattle.iceoryx2_world.specs.Access.{Change, node_view, set_tag, write, read_
 use Rattle.iceoryx2_world.proofs.agreement.Worlds.{place_cases}
 use Rattle.iceoryx2_table.proofs.Views.{kept}
 use Rattle.iceoryx2_table.specs.Spending.{Spends}
-use Rattle.iceoryx2_log.specs.declared.entry.Deed.{Deed}
-use Rattle.iceoryx2_log.specs.declared.entry.Deed.TheVariants as deed
+use Rattle.iceoryx2_log.specs.declared.entry.Operation.{Operation}
+use Rattle.iceoryx2_log.specs.declared.entry.Operation.TheVariants as operation
 use Rattle.iceoryx2_log.specs.declared.entry.Entry.{Entry}
 use Rattle.iceoryx2_journal.specs.Follow.{Grants, IsEntryOf}
 use Rattle.iceoryx2_journal.specs.Replay.{ComesTo, fetches, happens, spends}
@@ -97,18 +97,18 @@ same_write u v i h c s = same_write_by u v i h c.view c.tag c.tickets s
 
 -- ---- an entry's access
 
-entry_place : (i : ℕ) (h : ServiceHash) (d : Deed) (l : Letter) → Grants i h d l → (acting_node l ≡ i) × (service_of l ≡ h)
-entry_place i h deed.MakeTag l g = (ap acting_node g, ap service_of g)
-entry_place i h deed.RemoveTag l g = (ap acting_node g, ap service_of g)
-entry_place i h (deed.Lock n) l g = (ap acting_node g, ap service_of g)
-entry_place i h (deed.MakeSegment n m) l g = (ap acting_node g, ap service_of g)
-entry_place i h deed.RemoveSegment l g = (ap acting_node g, ap service_of g)
-entry_place i h deed.RemoveDescription l g = (ap acting_node g, ap service_of g)
-entry_place i h (deed.Publish n b) l g = (ap acting_node g.2, ap service_of g.2)
-entry_place i h (deed.OpenSegment n t) l g = (ap acting_node g, ap service_of g)
-entry_place i h (deed.Release t n) l g = (ap acting_node g.1, ap service_of g.1)
-entry_place i h (deed.Spend n) l g = absurd g
-entry_place i h deed.Moved l g = absurd g
+entry_place : (i : ℕ) (h : ServiceHash) (d : Operation) (l : Letter) → Grants i h d l → (acting_node l ≡ i) × (service_of l ≡ h)
+entry_place i h operation.MakeTag l g = (ap acting_node g, ap service_of g)
+entry_place i h operation.RemoveTag l g = (ap acting_node g, ap service_of g)
+entry_place i h (operation.Lock n) l g = (ap acting_node g, ap service_of g)
+entry_place i h (operation.MakeSegment n m) l g = (ap acting_node g, ap service_of g)
+entry_place i h operation.RemoveSegment l g = (ap acting_node g, ap service_of g)
+entry_place i h operation.RemoveDescription l g = (ap acting_node g, ap service_of g)
+entry_place i h (operation.Publish n b) l g = (ap acting_node g.2, ap service_of g.2)
+entry_place i h (operation.OpenSegment n t) l g = (ap acting_node g, ap service_of g)
+entry_place i h (operation.Release t n) l g = (ap acting_node g.1, ap service_of g.1)
+entry_place i h (operation.Spend n) l g = absurd g
+entry_place i h operation.Moved l g = absurd g
 
 -- an own part, of this node at this service
 record PartAt (i : ℕ) (h : ServiceHash) (w : World) (l : Letter) (v : World) : Type 0 where
@@ -132,19 +132,19 @@ same_parts : {u v w x : World} (e : Entry) (l o : Letter) → IsEntryOf e l → 
 same_parts {u} {v} {w} {x} e l o f g s p q =
     let i = e.node in
     let h = e.hash in
-    let a = part_at i h l (entry_place i h e.deed l f) p in
-    let b = part_at i h o (entry_place i h e.deed o g) q in
+    let a = part_at i h l (entry_place i h e.operation l f) p in
+    let b = part_at i h o (entry_place i h e.operation o g) q in
     let at_v = subst (λ z. IsNodeAnswer i h z o b.change) (seen u v i h s) b.own in
-    let one : a.change ≡ b.change = one_change i h (row_of u h) (segment_of u h) u.counter (tag_of u i h) u.tickets (phase_of u (Node i) h) (phase_of v (Node i) h) (sym (s.phases (Node i) h)) e.deed l o a.change b.change f g a.own at_v in
+    let one : a.change ≡ b.change = one_change i h (row_of u h) (segment_of u h) u.counter (tag_of u i h) u.tickets (phase_of u (Node i) h) (phase_of v (Node i) h) (sym (s.phases (Node i) h)) e.operation l o a.change b.change f g a.own at_v in
     let written = same_write u v i h a.change s in
     subst (λ z. IsSameButRead z x) (sym a.is) (subst (λ z. IsSameButRead (write u i h a.change) z) (sym (b.is ∙ ap (write v i h) (sym one))) written)
 
 -- an entry's access, or the numbers that it spends
 data Effect (e : Entry) (w v : World) : Type 0 where
   accessed : (l : Letter) → IsEntryOf e l → IsOwnPart w l v → Effect e w v
-  spent : (n : ℕ) → e.deed ≡ deed.Spend n → Spends e.node e.hash n w v → Effect e w v
+  spent : (n : ℕ) → e.operation ≡ operation.Spend n → Spends e.node e.hash n w v → Effect e w v
 
-spends_none : (e : Entry) (n : ℕ) (l : Letter) → e.deed ≡ deed.Spend n → IsEntryOf e l → ⊥
+spends_none : (e : Entry) (n : ℕ) (l : Letter) → e.operation ≡ operation.Spend n → IsEntryOf e l → ⊥
 spends_none e n l is granted = subst (λ d. Grants e.node e.hash d l) is granted
 
 same_spent : {i m n : ℕ} {h : ServiceHash} {u v w x : World} → m ≡ n → Spends i h m u w → Spends i h n v x → IsSameButRead u v → IsSameButRead w x
@@ -163,7 +163,7 @@ same_effects : {u v w x : World} (e : Entry) → Effect e u w → Effect e v x �
 same_effects e (accessed l f p) (accessed o g q) s = same_parts e l o f g s p q
 same_effects e (accessed l f p) (spent n is b) s = absurd (spends_none e n l is f)
 same_effects e (spent n is a) (accessed o g q) s = absurd (spends_none e n o is g)
-same_effects e (spent m is a) (spent n also b) s = same_spent (let x : deed.Spend m ≡ deed.Spend n = sym is ∙ also in cc) a b s
+same_effects e (spent m is a) (spent n also b) s = same_spent (let x : operation.Spend m ≡ operation.Spend n = sym is ∙ also in cc) a b s
 
 -- ---- a fetch
 

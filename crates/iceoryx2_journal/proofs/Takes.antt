@@ -51,7 +51,7 @@ same_others {own} {w} e = subst (Others own w) (sym e) nobody
 
 pub stops_others : {nodes : List ℕ} {c : Option Contents} {w v : World} {s : Stop} → Stops nodes c w s v → Others (is_own nodes) w v
 stops_others (unread is same) = same_others same
-stops_others (starved e is front f p) = alone e.node f (prepare_acts e.hash e.deed p) nobody
+stops_others (starved e is front f p) = alone e.node f (prepare_acts e.hash e.operation p) nobody
 stops_others (own e is front f same) = same_others same
 stops_others (disagrees e is front f a) = alone e.node f (differs_acts e a) nobody
 stops_others (astray is unknown same) = same_others same

@@ -1,7 +1,7 @@
 -- What a contract sees of a journal.
 pub mod Follow
 pub mod Taking
-pub mod Pen
+pub mod LogRecorder
 pub mod Logged
 pub mod Journal
 pub mod Cleaning

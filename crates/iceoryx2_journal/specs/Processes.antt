@@ -10,8 +10,8 @@ use Rattle.iceoryx2_world.specs.World.{World}
 use Rattle.iceoryx2_world.specs.Agreement.{Agrees}
 use Rattle.iceoryx2_world.specs.Access.{IsOwnPart}
 use Rattle.iceoryx2_world.specs.Standing.{Stands}
-use Rattle.iceoryx2_log.specs.declared.entry.Deed.{Deed}
-use Rattle.iceoryx2_log.specs.declared.entry.Deed.TheVariants as deed
+use Rattle.iceoryx2_log.specs.declared.entry.Operation.{Operation}
+use Rattle.iceoryx2_log.specs.declared.entry.Operation.TheVariants as operation
 use Rattle.iceoryx2_log.specs.declared.entry.Entry.{Entry}
 use Rattle.iceoryx2_log.specs.Log.{Contents}
 use Rattle.iceoryx2_journal.specs.Taking.{is_own}
@@ -22,18 +22,18 @@ use Rattle.iceoryx2_table.specs.Same.{IsSameButRead}
 
 -- ---- what the laws speak of
 
--- the number under which a deed publishes a description
-abbrev pub published_number : Deed → Option ℕ
-published_number (deed.Publish n bytes) = Some n
+-- the number under which a operation publishes a description
+abbrev pub published_number : Operation → Option ℕ
+published_number (operation.Publish n bytes) = Some n
 published_number _ = None
 
 -- the numbers under which entries publish descriptions, in their order
 abbrev pub published_numbers : List Entry → List ℕ
-published_numbers entries = filter_map (λ e. published_number e.deed) entries
+published_numbers entries = filter_map (λ e. published_number e.operation) entries
 
 -- the entry by which a factory's ticket is released
 abbrev pub release_of : Registered → Entry
-release_of f = record { node = f.node; hash = f.description.hash; deed = deed.Release f.ticket f.number }
+release_of f = record { node = f.node; hash = f.description.hash; operation = operation.Release f.ticket f.number }
 
 -- No entry releases the factory's ticket.
 abbrev pub AllSpare : Registered → List Entry → Type 0

@@ -9,7 +9,7 @@ use Rattle.iceoryx2_world.specs.Access.{IsOwnPart}
 use Rattle.iceoryx2_world.specs.Agreement.{Agrees}
 use Rattle.iceoryx2_table.specs.Spending.{Spends}
 use Rattle.iceoryx2_table.specs.Same.{IsSameButRead}
-use Rattle.iceoryx2_log.specs.declared.entry.Deed.TheVariants as deed
+use Rattle.iceoryx2_log.specs.declared.entry.Operation.TheVariants as operation
 use Rattle.iceoryx2_log.specs.declared.entry.Entry.{Entry}
 use Rattle.iceoryx2_log.specs.Log.{Contents, WhereKnown}
 use Rattle.iceoryx2_journal.specs.Follow.{IsEntryOf}
@@ -27,7 +27,7 @@ pub data ComesTo : World → List Entry → World → Type 0 where
   happens : {w u v : World} {es : List Entry} (e : Entry) (l : Letter)
       → IsEntryOf e l → IsOwnPart w l u → ComesTo u es v → ComesTo w (e ∷ es) v
   spends : {w u v : World} {es : List Entry} (e : Entry) (n : ℕ)
-      → e.deed ≡ deed.Spend n → Spends e.node e.hash n w u → ComesTo u es v → ComesTo w (e ∷ es) v
+      → e.operation ≡ operation.Spend n → Spends e.node e.hash n w u → ComesTo u es v → ComesTo w (e ∷ es) v
 
 -- The place stays, and these were taken over or appended there, in their order.
 pub record Moves (entries : List Entry) (old new : Contents) : Type 0 where

@@ -53,7 +53,7 @@ pub data Stops (nodes : List ℕ) (log : Option Contents) (w : World) (s : Stop)
   unread : ends s ≡ false → v ≡ w → Stops nodes log w s v
   -- there is no memory for another's entry: it can be followed again
   starved : (e : Entry) → s ≡ stop.Later → IsNext e log → is_own nodes e.node ≡ false
-      → Prepares e.node e.hash e.deed w v → Stops nodes log w s v
+      → Prepares e.node e.hash e.operation w v → Stops nodes log w s v
   -- it is in an own node's name, and this process didn't append it: it isn't followed
   own : (e : Entry) → s ≡ stop.Over → IsNext e log → is_own nodes e.node ≡ true → v ≡ w → Stops nodes log w s v
   -- it isn't what the table answers to another's access
@@ -78,7 +78,7 @@ TakesNext nodes (next.Stopped s) w v old new = Stops nodes new w s v × (new ≡
 -- There was no memory for the next entry, which is another's.
 abbrev pub IsStarved : List ℕ → Option Contents → World → World → Type 0
 IsStarved nodes log w v =
-    (e : Entry) × IsNext e log × (is_own nodes e.node ≡ false) × Prepares e.node e.hash e.deed w v
+    (e : Entry) × IsNext e log × (is_own nodes e.node ≡ false) × Prepares e.node e.hash e.operation w v
 
 -- A stop after which it may go on later comes only where the log showed no entry, or there was no memory for another's.
 -- So one in an own node's name, and one that isn't what the table answers, end it.

@@ -7,8 +7,8 @@ ghost use Rattle.iceoryx2_journal.specs.Cleaning.{has_segment as has_segment_spe
 ghost use Rattle.iceoryx2_journal.specs.declared.cleaning.GivenBack.TheVariants as given;
 ghost use Rattle.iceoryx2_journal.specs.Logged.{IsLoggedPart};
 
+use crate::log_recorder::LogRecorder;
 use crate::parts;
-use crate::pen::Pen;
 use iceoryx2_access::storage::RemoveError;
 use iceoryx2_log::log::Log;
 use iceoryx2_table::holdings::Holding;
@@ -159,29 +159,29 @@ pub(crate) fn thing(removed: Result<(), RemoveError>) -> Option<GivenBack>
 /// isn't after.
 pub(crate) fn give_back<L: Log>(
     world: &mut StoredWorld,
-    pen: &mut Pen<L>,
+    recorder: &mut LogRecorder<L>,
     node: u64,
     held: Holding,
 ) -> Option<GivenBack>
     ensures gives { (l : Letter) × GivesUp node held l × (given_back l ≡ result)
-        × IsLoggedPart L.contents world.old l world.new pen.old.log pen.new.log }
-    ensures free { L.held pen.new.log ≡ false }
+        × IsLoggedPart L.contents world.old l world.new recorder.old.log recorder.new.log }
+    ensures free { L.held recorder.new.log ≡ false }
 {
     match held {
         Holding::Ticket {
             ticket,
             hash,
             number,
-        } => match parts::release(world, pen, ticket, node, &hash, number) {
+        } => match parts::release(world, recorder, ticket, node, &hash, number) {
             Ok(_) => Some(GivenBack::Ticket),
             Err(_) => None,
         },
         Holding::Service { hash, phase } => {
             if has_segment(phase) {
-                return thing(parts::remove_segment(world, pen, node, &hash));
+                return thing(parts::remove_segment(world, recorder, node, &hash));
             }
-            thing(parts::remove_description(world, pen, node, &hash))
+            thing(parts::remove_description(world, recorder, node, &hash))
         }
-        Holding::Tag { hash } => thing(parts::remove_tag(world, pen, node, &hash)),
+        Holding::Tag { hash } => thing(parts::remove_tag(world, recorder, node, &hash)),
     }
 }

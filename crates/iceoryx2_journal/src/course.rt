@@ -11,7 +11,7 @@ mod tags;
 
 use self::plan::Plan;
 use iceoryx2_description::description::{HASH_LENGTH, ServiceHash};
-use iceoryx2_log::entry::{Deed, Entry};
+use iceoryx2_log::entry::{Entry, Operation};
 use iceoryx2_table::table::stored::StoredWorld;
 use iceoryx2_world::world::{Participant, Phase};
 use std::alloc::{AllocError, Global};
@@ -91,8 +91,12 @@ pub struct Course {
 }
 
 /// An entry with these parts.
-fn entry(node: u64, hash: ServiceHash, deed: Deed) -> Entry {
-    Entry { node, hash, deed }
+fn entry(node: u64, hash: ServiceHash, operation: Operation) -> Entry {
+    Entry {
+        node,
+        hash,
+        operation,
+    }
 }
 
 /// How many things stand in a world.
@@ -221,8 +225,8 @@ impl Course {
             self.plan = Some(Plan::new(alloc, self.spare, from, to)?);
         }
         if let Some((node, hash)) = self.creating {
-            if let Some(deed) = settling::deed(alloc, from, to, node, &hash)? {
-                return Ok(Some(entry(node, hash, deed)));
+            if let Some(operation) = settling::operation(alloc, from, to, node, &hash)? {
+                return Ok(Some(entry(node, hash, operation)));
             }
             self.creating = None;
         }
@@ -237,7 +241,7 @@ impl Course {
             if let Some(entry) = self.at_gap(counter, from, to) {
                 return Some(entry);
             }
-            return Some(entry(self.spare, ZEROS, Deed::Spend { number: next }));
+            return Some(entry(self.spare, ZEROS, Operation::Spend { number: next }));
         }
         if counter >= to.counter() {
             return None;
@@ -275,7 +279,7 @@ impl Course {
     // The node locks the service, which is brought then to where the later world has it.
     fn lock(&mut self, node: u64, hash: ServiceHash, number: u64) -> Entry {
         self.creating = Some((node, hash));
-        entry(node, hash, Deed::Lock { number })
+        entry(node, hash, Operation::Lock { number })
     }
 
     // What is done with a number that nothing of the later world has: somebody opens a service that it is the last one
@@ -303,7 +307,7 @@ impl Course {
             }
         }
         let ticket = from.counter();
-        entry(node, hash, Deed::OpenSegment { number, ticket })
+        entry(node, hash, Operation::OpenSegment { number, ticket })
     }
 
     // The release of the ticket that was kept of the service.

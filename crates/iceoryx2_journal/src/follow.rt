@@ -1,6 +1,6 @@
 //! What an entry of another makes of a process's world.
 
-ghost use Rattle.iceoryx2_log.specs.declared.entry.Deed.TheVariants as deed;
+ghost use Rattle.iceoryx2_log.specs.declared.entry.Operation.TheVariants as operation;
 ghost use Rattle.iceoryx2_journal.specs.Follow.{MayFetch, Follows};
 
 mod judging;
@@ -8,7 +8,7 @@ mod judging;
 use iceoryx2_access::storage::FetchError;
 use iceoryx2_data::bytes::{self, DecodeError};
 use iceoryx2_description::description::ServiceHash;
-use iceoryx2_log::entry::{Deed, Entry, FormBytes};
+use iceoryx2_log::entry::{Entry, FormBytes, Operation};
 use iceoryx2_table::recorder::Unrecorded;
 use iceoryx2_table::table::stored::StoredWorld;
 use std::alloc::Global;
@@ -31,20 +31,22 @@ pub fn follow(alloc: Global, world: &mut StoredWorld, entry: &Entry) -> Result<(
 {
     let node = entry.node;
     let hash = &entry.hash;
-    match &entry.deed {
-        Deed::MakeTag => make_tag(world, node, hash),
-        Deed::RemoveTag => remove_tag(world, node, hash),
-        Deed::Lock { number } => lock(world, node, hash, *number),
-        Deed::MakeSegment { number, max_nodes } => {
+    match &entry.operation {
+        Operation::MakeTag => make_tag(world, node, hash),
+        Operation::RemoveTag => remove_tag(world, node, hash),
+        Operation::Lock { number } => lock(world, node, hash, *number),
+        Operation::MakeSegment { number, max_nodes } => {
             make_segment(world, node, hash, *number, *max_nodes)
         }
-        Deed::RemoveSegment => remove_segment(world, node, hash),
-        Deed::RemoveDescription => remove_description(world, node, hash),
-        Deed::Publish { number, bytes } => publish(alloc, world, node, hash, *number, bytes),
-        Deed::OpenSegment { number, ticket } => open_segment(world, node, hash, *number, *ticket),
-        Deed::Release { ticket, number } => release(world, *ticket, node, hash, *number),
-        Deed::Spend { number } => spend(world, node, hash, *number),
-        Deed::Moved => Err(FollowError::Disagrees),
+        Operation::RemoveSegment => remove_segment(world, node, hash),
+        Operation::RemoveDescription => remove_description(world, node, hash),
+        Operation::Publish { number, bytes } => publish(alloc, world, node, hash, *number, bytes),
+        Operation::OpenSegment { number, ticket } => open_segment(
+            world, node, hash, *number, *ticket,
+        ),
+        Operation::Release { ticket, number } => release(world, *ticket, node, hash, *number),
+        Operation::Spend { number } => spend(world, node, hash, *number),
+        Operation::Moved => Err(FollowError::Disagrees),
     }
 }
 
@@ -55,7 +57,7 @@ fn spend(
     hash: &ServiceHash,
     number: u64,
 ) -> Result<(), FollowError>
-    ensures { Follows (record { node = node; hash = hash.now; deed = deed.Spend number }) result world.old world.new }
+    ensures { Follows (record { node = node; hash = hash.now; operation = operation.Spend number }) result world.old world.new }
 {
     if world.spend(node, hash, number) {
         Ok(())
@@ -65,13 +67,13 @@ fn spend(
 }
 
 fn make_tag(world: &mut StoredWorld, node: u64, hash: &ServiceHash) -> Result<(), FollowError>
-    ensures { Follows (record { node = node; hash = hash.now; deed = deed.MakeTag }) result world.old world.new }
+    ensures { Follows (record { node = node; hash = hash.now; operation = operation.MakeTag }) result world.old world.new }
 {
     judging::made_tag(world.make_tag(&mut Unrecorded, node, hash))
 }
 
 fn remove_tag(world: &mut StoredWorld, node: u64, hash: &ServiceHash) -> Result<(), FollowError>
-    ensures { Follows (record { node = node; hash = hash.now; deed = deed.RemoveTag }) result world.old world.new }
+    ensures { Follows (record { node = node; hash = hash.now; operation = operation.RemoveTag }) result world.old world.new }
 {
     judging::removed(world.remove_tag(&mut Unrecorded, node, hash))
 }
@@ -82,7 +84,7 @@ fn lock(
     hash: &ServiceHash,
     number: u64,
 ) -> Result<(), FollowError>
-    ensures { Follows (record { node = node; hash = hash.now; deed = deed.Lock number }) result world.old world.new }
+    ensures { Follows (record { node = node; hash = hash.now; operation = operation.Lock number }) result world.old world.new }
 {
     judging::locked(world.lock(&mut Unrecorded, node, hash), number)
 }
@@ -94,14 +96,14 @@ fn make_segment(
     number: u64,
     max_nodes: u64,
 ) -> Result<(), FollowError>
-    ensures { Follows (record { node = node; hash = hash.now; deed = deed.MakeSegment number max_nodes }) result
+    ensures { Follows (record { node = node; hash = hash.now; operation = operation.MakeSegment number max_nodes }) result
         world.old world.new }
 {
     judging::made_segment(world.make_segment(&mut Unrecorded, node, hash, number, max_nodes))
 }
 
 fn remove_segment(world: &mut StoredWorld, node: u64, hash: &ServiceHash) -> Result<(), FollowError>
-    ensures { Follows (record { node = node; hash = hash.now; deed = deed.RemoveSegment }) result world.old world.new }
+    ensures { Follows (record { node = node; hash = hash.now; operation = operation.RemoveSegment }) result world.old world.new }
 {
     judging::removed(world.remove_segment(&mut Unrecorded, node, hash))
 }
@@ -111,7 +113,7 @@ fn remove_description(
     node: u64,
     hash: &ServiceHash,
 ) -> Result<(), FollowError>
-    ensures { Follows (record { node = node; hash = hash.now; deed = deed.RemoveDescription }) result
+    ensures { Follows (record { node = node; hash = hash.now; operation = operation.RemoveDescription }) result
         world.old world.new }
 {
     judging::removed(world.remove_description(&mut Unrecorded, node, hash))
@@ -125,7 +127,7 @@ fn publish(
     number: u64,
     bytes: &FormBytes,
 ) -> Result<(), FollowError>
-    ensures { Follows (record { node = node; hash = hash.now; deed = deed.Publish number bytes.now }) result
+    ensures { Follows (record { node = node; hash = hash.now; operation = operation.Publish number bytes.now }) result
         world.old world.new }
 {
     match bytes::decode(alloc, bytes.as_slice()) {
@@ -145,7 +147,7 @@ fn open_segment(
     number: u64,
     ticket: u64,
 ) -> Result<(), FollowError>
-    ensures { Follows (record { node = node; hash = hash.now; deed = deed.OpenSegment number ticket }) result
+    ensures { Follows (record { node = node; hash = hash.now; operation = operation.OpenSegment number ticket }) result
         world.old world.new }
 {
     if !fetch(world, node, hash) {
@@ -177,7 +179,7 @@ fn release(
     hash: &ServiceHash,
     number: u64,
 ) -> Result<(), FollowError>
-    ensures { Follows (record { node = node; hash = hash.now; deed = deed.Release ticket number }) result
+    ensures { Follows (record { node = node; hash = hash.now; operation = operation.Release ticket number }) result
         world.old world.new }
 {
     judging::released(world.release(&mut Unrecorded, ticket, node, hash, number))

@@ -11,7 +11,7 @@ mod accesses;
 mod cleaning;
 mod resuming;
 
-use crate::pen::Pen;
+use crate::log_recorder::LogRecorder;
 use crate::snapshot::compact;
 use crate::taking::{has, take_over};
 use iceoryx2_access::storage::{Existence, Service, Sha1Hasher};
@@ -36,7 +36,7 @@ use std::marker::{Model, PhantomData};
 #[derive(Drop)]
 pub struct Journal<L> {
     world: StoredWorld,
-    pen: Pen<L>,
+    recorder: LogRecorder<L>,
     nodes: Vec<u64>,
     is_over: bool,
     // whether the log goes on elsewhere, and the world isn't yet what it comes to there
@@ -52,7 +52,7 @@ impl<L> Model for Journal<L> {
 
     ghost view = { λ j. record {
       world = j.world;
-      log = j.pen.log;
+      log = j.recorder.log;
       nodes = j.nodes.items;
       is_over = j.is_over;
       is_lost = j.is_lost;
@@ -72,7 +72,7 @@ impl<L> Journal<L> {
     {
         Journal {
             world: StoredWorld::starting_at(alloc, counter),
-            pen: Pen { log, entry: None },
+            recorder: LogRecorder { log, entry: None },
             nodes,
             is_over: false,
             is_lost: false,
@@ -106,7 +106,7 @@ impl<L> Journal<L> {
     pub fn log(&self) -> &L
         ensures { result.now ≡ self.now.log }
     {
-        &self.pen.log
+        &self.recorder.log
     }
 
     // Whether it is one of the own nodes.
@@ -124,7 +124,7 @@ impl<L: Drop> Journal<L> {
     {
         let Journal {
             world,
-            pen: _,
+            recorder: _,
             nodes: _,
             is_over: _,
             is_lost: _,
@@ -147,7 +147,7 @@ impl<L: Log> Journal<L> {
         if !self.begin_reading() {
             return false;
         }
-        compact(*self.nodes.allocator(), &self.world, &mut self.pen.log);
+        compact(*self.nodes.allocator(), &self.world, &mut self.recorder.log);
         true
     }
 
@@ -160,7 +160,7 @@ impl<L: Log> Journal<L> {
         if self.is_over {
             return false;
         }
-        let Ok(_) = self.pen.log.hold() else {
+        let Ok(_) = self.recorder.log.hold() else {
             return false;
         };
         self.take_in()
@@ -176,14 +176,14 @@ impl<L: Log> Journal<L> {
         match take_over(
             *self.nodes.allocator(),
             &mut self.world,
-            &mut self.pen.log,
+            &mut self.recorder.log,
             &self.nodes,
             &mut self.is_lost,
         ) {
             Ok(()) => true,
             Err(stop) => {
                 self.is_over = stop.ends();
-                self.pen.log.let_go();
+                self.recorder.log.let_go();
                 false
             }
         }
@@ -200,13 +200,13 @@ impl<L: Log> Journal<L> {
         if self.is_over {
             return false;
         }
-        let Ok(_) = self.pen.log.look() else {
+        let Ok(_) = self.recorder.log.look() else {
             return false;
         };
         if !self.take_in() {
             return false;
         }
-        self.pen.log.let_go();
+        self.recorder.log.let_go();
         true
     }
 
@@ -219,7 +219,7 @@ impl<L: Log> Journal<L> {
         ensures nodes { self.new.nodes ≡ self.old.nodes }
     {
         if self.begin(true) {
-            self.pen.log.let_go();
+            self.recorder.log.let_go();
             return true;
         }
         false
@@ -253,7 +253,7 @@ impl<L: Log> Journal<L> {
         ensures free { result ≡ true → L.held self.new.log ≡ false }
     {
         match self.world.exists(hash) {
-            Existence::BeingSetUp => self.pen.log.pause(number),
+            Existence::BeingSetUp => self.recorder.log.pause(number),
             _ => false,
         }
     }
@@ -297,7 +297,7 @@ impl<L: SpansCalls> Journal<L> {
         ensures spans { Spans L.contents self.old self.new }
         ensures hold { KeepsHold L.held self.old self.new }
     {
-        self.pen.log.begin_call();
+        self.recorder.log.begin_call();
     }
 
     /// The call ends, and others may have the log.
@@ -306,7 +306,7 @@ impl<L: SpansCalls> Journal<L> {
         ensures free { L.held self.new.log ≡ false }
         ensures ended { L.in_call self.new.log ≡ false }
     {
-        self.pen.log.end_call();
+        self.recorder.log.end_call();
     }
 }
 

@@ -5,14 +5,14 @@ ghost use Rattle.std.specs.Prelude.{◌≡◌, false};
 ghost use Rattle.iceoryx2_access.specs.Letter as letter;
 ghost use Rattle.iceoryx2_journal.specs.Logged.{IsLoggedPart};
 
-use crate::pen::Pen;
+use crate::log_recorder::LogRecorder;
 use iceoryx2_access::storage::{
     LockError, MakeSegmentError, OpenSegmentError, PublishError, Release, ReleaseError,
     RemoveError, Tag, TagError,
 };
 use iceoryx2_data::bytes;
 use iceoryx2_description::description::{ServiceHash, StaticConfig};
-use iceoryx2_log::entry::{Deed, Entry, FormBytes};
+use iceoryx2_log::entry::{Entry, FormBytes, Operation};
 use iceoryx2_log::log::Log;
 use iceoryx2_table::table::stored::StoredWorld;
 use std::alloc::Global;
@@ -20,129 +20,129 @@ use std::alloc::Global;
 /// The node has its tag, which is appended where it made it. `Fault` where the log refuses.
 pub fn make_tag<L: Log>(
     world: &mut StoredWorld,
-    pen: &mut Pen<L>,
+    recorder: &mut LogRecorder<L>,
     node: u64,
     hash: &ServiceHash,
 ) -> Result<Tag, TagError>
     ensures logged { IsLoggedPart L.contents world.old (letter.MakeTag node hash.now result) world.new
-        pen.old.log pen.new.log }
-    ensures free { L.held pen.new.log ≡ false }
+        recorder.old.log recorder.new.log }
+    ensures free { L.held recorder.new.log ≡ false }
 {
-    pen.entry = Some(Entry {
+    recorder.entry = Some(Entry {
         node,
         hash: *hash,
-        deed: Deed::MakeTag,
+        operation: Operation::MakeTag,
     });
-    let answer = world.make_tag(pen, node, hash);
-    pen.log.let_go();
+    let answer = world.make_tag(recorder, node, hash);
+    recorder.log.let_go();
     answer
 }
 
 /// The node's tag isn't there any more, which is appended where it was. `Other` where the log refuses.
 pub fn remove_tag<L: Log>(
     world: &mut StoredWorld,
-    pen: &mut Pen<L>,
+    recorder: &mut LogRecorder<L>,
     node: u64,
     hash: &ServiceHash,
 ) -> Result<(), RemoveError>
     ensures logged { IsLoggedPart L.contents world.old (letter.RemoveTag node hash.now result) world.new
-        pen.old.log pen.new.log }
-    ensures free { L.held pen.new.log ≡ false }
+        recorder.old.log recorder.new.log }
+    ensures free { L.held recorder.new.log ≡ false }
 {
-    pen.entry = Some(Entry {
+    recorder.entry = Some(Entry {
         node,
         hash: *hash,
-        deed: Deed::RemoveTag,
+        operation: Operation::RemoveTag,
     });
-    let answer = world.remove_tag(pen, node, hash);
-    pen.log.let_go();
+    let answer = world.remove_tag(recorder, node, hash);
+    recorder.log.let_go();
     answer
 }
 
 /// The node holds the lock, whose number is the counter before. `Other` where the log refuses.
 pub fn lock<L: Log>(
     world: &mut StoredWorld,
-    pen: &mut Pen<L>,
+    recorder: &mut LogRecorder<L>,
     node: u64,
     hash: &ServiceHash,
 ) -> Result<u64, LockError>
     ensures logged { IsLoggedPart L.contents world.old (letter.Lock node hash.now result) world.new
-        pen.old.log pen.new.log }
-    ensures free { L.held pen.new.log ≡ false }
+        recorder.old.log recorder.new.log }
+    ensures free { L.held recorder.new.log ≡ false }
 {
     let number = world.counter();
-    pen.entry = Some(Entry {
+    recorder.entry = Some(Entry {
         node,
         hash: *hash,
-        deed: Deed::Lock { number },
+        operation: Operation::Lock { number },
     });
-    let answer = world.lock(pen, node, hash);
-    pen.log.let_go();
+    let answer = world.lock(recorder, node, hash);
+    recorder.log.let_go();
     answer
 }
 
 /// There is a segment for so many nodes. `Other` where the log refuses.
 pub fn make_segment<L: Log>(
     world: &mut StoredWorld,
-    pen: &mut Pen<L>,
+    recorder: &mut LogRecorder<L>,
     node: u64,
     hash: &ServiceHash,
     number: u64,
     max_nodes: u64,
 ) -> Result<(), MakeSegmentError>
     ensures logged { IsLoggedPart L.contents world.old (letter.MakeSegment node hash.now number max_nodes result)
-        world.new pen.old.log pen.new.log }
-    ensures free { L.held pen.new.log ≡ false }
+        world.new recorder.old.log recorder.new.log }
+    ensures free { L.held recorder.new.log ≡ false }
 {
-    pen.entry = Some(Entry {
+    recorder.entry = Some(Entry {
         node,
         hash: *hash,
-        deed: Deed::MakeSegment { number, max_nodes },
+        operation: Operation::MakeSegment { number, max_nodes },
     });
-    let answer = world.make_segment(pen, node, hash, number, max_nodes);
-    pen.log.let_go();
+    let answer = world.make_segment(recorder, node, hash, number, max_nodes);
+    recorder.log.let_go();
     answer
 }
 
 /// The segment isn't there any more. `Other` where the log refuses.
 pub fn remove_segment<L: Log>(
     world: &mut StoredWorld,
-    pen: &mut Pen<L>,
+    recorder: &mut LogRecorder<L>,
     node: u64,
     hash: &ServiceHash,
 ) -> Result<(), RemoveError>
     ensures logged { IsLoggedPart L.contents world.old (letter.RemoveSegment node hash.now result) world.new
-        pen.old.log pen.new.log }
-    ensures free { L.held pen.new.log ≡ false }
+        recorder.old.log recorder.new.log }
+    ensures free { L.held recorder.new.log ≡ false }
 {
-    pen.entry = Some(Entry {
+    recorder.entry = Some(Entry {
         node,
         hash: *hash,
-        deed: Deed::RemoveSegment,
+        operation: Operation::RemoveSegment,
     });
-    let answer = world.remove_segment(pen, node, hash);
-    pen.log.let_go();
+    let answer = world.remove_segment(recorder, node, hash);
+    recorder.log.let_go();
     answer
 }
 
 /// Nothing is written under the hash any more. `Other` where the log refuses.
 pub fn remove_description<L: Log>(
     world: &mut StoredWorld,
-    pen: &mut Pen<L>,
+    recorder: &mut LogRecorder<L>,
     node: u64,
     hash: &ServiceHash,
 ) -> Result<(), RemoveError>
     ensures logged { IsLoggedPart L.contents world.old (letter.RemoveDescription node hash.now result) world.new
-        pen.old.log pen.new.log }
-    ensures free { L.held pen.new.log ≡ false }
+        recorder.old.log recorder.new.log }
+    ensures free { L.held recorder.new.log ≡ false }
 {
-    pen.entry = Some(Entry {
+    recorder.entry = Some(Entry {
         node,
         hash: *hash,
-        deed: Deed::RemoveDescription,
+        operation: Operation::RemoveDescription,
     });
-    let answer = world.remove_description(pen, node, hash);
-    pen.log.let_go();
+    let answer = world.remove_description(recorder, node, hash);
+    recorder.log.let_go();
     answer
 }
 
@@ -151,75 +151,75 @@ pub fn remove_description<L: Log>(
 pub fn publish<L: Log>(
     alloc: Global,
     world: &mut StoredWorld,
-    pen: &mut Pen<L>,
+    recorder: &mut LogRecorder<L>,
     node: u64,
     hash: &ServiceHash,
     number: u64,
     description: &StaticConfig,
 ) -> Result<u64, PublishError>
     ensures logged { IsLoggedPart L.contents world.old (letter.Publish node hash.now number description.now result)
-        world.new pen.old.log pen.new.log }
-    ensures free { L.held pen.new.log ≡ false }
+        world.new recorder.old.log recorder.new.log }
+    ensures free { L.held recorder.new.log ≡ false }
 {
     let Ok(form) = bytes::encode(alloc, description) else {
-        pen.log.let_go();
+        recorder.log.let_go();
         return Err(PublishError::Other);
     };
-    pen.entry = Some(Entry {
+    recorder.entry = Some(Entry {
         node,
         hash: *hash,
-        deed: Deed::Publish {
+        operation: Operation::Publish {
             number,
             bytes: FormBytes::new(form),
         },
     });
-    let answer = world.publish(pen, node, hash, number, description);
-    pen.log.let_go();
+    let answer = world.publish(recorder, node, hash, number, description);
+    recorder.log.let_go();
     answer
 }
 
 /// The node has a ticket, which is the counter before. `Failed` where the log refuses.
 pub fn open_segment<L: Log>(
     world: &mut StoredWorld,
-    pen: &mut Pen<L>,
+    recorder: &mut LogRecorder<L>,
     node: u64,
     hash: &ServiceHash,
     number: u64,
 ) -> Result<u64, OpenSegmentError>
     ensures logged { IsLoggedPart L.contents world.old (letter.OpenSegment node hash.now number result) world.new
-        pen.old.log pen.new.log }
-    ensures free { L.held pen.new.log ≡ false }
+        recorder.old.log recorder.new.log }
+    ensures free { L.held recorder.new.log ≡ false }
 {
     let ticket = world.counter();
-    pen.entry = Some(Entry {
+    recorder.entry = Some(Entry {
         node,
         hash: *hash,
-        deed: Deed::OpenSegment { number, ticket },
+        operation: Operation::OpenSegment { number, ticket },
     });
-    let answer = world.open_segment(pen, node, hash, number);
-    pen.log.let_go();
+    let answer = world.open_segment(recorder, node, hash, number);
+    recorder.log.let_go();
     answer
 }
 
 /// The ticket isn't there any more. `NoSuchTicket` where the log refuses.
 pub fn release<L: Log>(
     world: &mut StoredWorld,
-    pen: &mut Pen<L>,
+    recorder: &mut LogRecorder<L>,
     ticket: u64,
     node: u64,
     hash: &ServiceHash,
     number: u64,
 ) -> Result<Release, ReleaseError>
     ensures logged { IsLoggedPart L.contents world.old (letter.Release ticket node hash.now number result) world.new
-        pen.old.log pen.new.log }
-    ensures free { L.held pen.new.log ≡ false }
+        recorder.old.log recorder.new.log }
+    ensures free { L.held recorder.new.log ≡ false }
 {
-    pen.entry = Some(Entry {
+    recorder.entry = Some(Entry {
         node,
         hash: *hash,
-        deed: Deed::Release { ticket, number },
+        operation: Operation::Release { ticket, number },
     });
-    let answer = world.release(pen, ticket, node, hash, number);
-    pen.log.let_go();
+    let answer = world.release(recorder, ticket, node, hash, number);
+    recorder.log.let_go();
     answer
 }

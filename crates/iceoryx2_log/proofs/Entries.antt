@@ -5,12 +5,12 @@ use Rattle.iceoryx2_description.specs.declared.description.TheConstants.{HASH_LE
 use Rattle.iceoryx2_data.specs.PartForm.{number}
 use Rattle.iceoryx2_data.specs.PartReading.{◌>>=◌}
 use Rattle.iceoryx2_data.proofs.PartForms.{IsBytes, IsBytes-rest, bind_some, some_is, Takes, Reads, Reads-then, Reads-number64, Reads-each_byte}
-use Rattle.iceoryx2_log.specs.declared.entry.Deed.{Deed}
+use Rattle.iceoryx2_log.specs.declared.entry.Operation.{Operation}
 use Rattle.iceoryx2_log.specs.declared.entry.Entry.{Entry}
 use Rattle.iceoryx2_log.specs.declared.form.TheConstants.{MIN_BODY_LENGTH, MAX_BODY_LENGTH}
 use Rattle.iceoryx2_log.specs.Form.{IsEntry, kind, details, body, sealed, IsLength}
-use Rattle.iceoryx2_log.specs.Reading.{kind_at, front_at, entry_from, deed_in, body_in, sealed_at, entry_at}
-use Rattle.iceoryx2_log.proofs.Deeds.{deed_takes, deed_again, kind_below}
+use Rattle.iceoryx2_log.specs.Reading.{kind_at, front_at, entry_from, operation_in, body_in, sealed_at, entry_at}
+use Rattle.iceoryx2_log.proofs.Operations.{operation_takes, operation_again, kind_below}
 use Rattle.iceoryx2_log.proofs.Parts.{sealed_takes, sealed_again}
 
 -- ---- the body
@@ -53,27 +53,27 @@ pub record IsBody (bytes : List ℕ) (e : Entry) : Type 0 where
 pub body_takes : (bytes : List ℕ) (x : Entry) → IsBytes bytes → body_in bytes ≡ Some x → IsBody bytes x
 unfolding body_in
 body_takes bytes x fits e =
-    let a = bind_some (front_at bytes) (λ f. deed_in f.0.0 f.1 >>= λ d. Some (entry_from f.0 d)) x e in
-    let b = bind_some (deed_in a.0.0.0 a.0.1) (λ d. Some (entry_from a.0.0 d)) x a.2 in
+    let a = bind_some (front_at bytes) (λ f. operation_in f.0.0 f.1 >>= λ d. Some (entry_from f.0 d)) x e in
+    let b = bind_some (operation_in a.0.0.0 a.0.1) (λ d. Some (entry_from a.0.0 d)) x a.2 in
     let t = Reads-front.takes bytes a.0 fits a.1 in
-    let d = deed_takes a.0.0.0 a.0.1 b.0 t.0.rest_fits b.1 in
+    let d = operation_takes a.0.0.0 a.0.1 b.0 t.0.rest_fits b.1 in
     let whole : bytes ≡ body (entry_from a.0.0 b.0) = t.0.parts ∙ ap (λ (k : ℕ). k ∷ ((number a.0.0.1.0 ++ a.0.0.1.1) ++ a.0.1)) d.is_kind ∙ ap (λ (r : List ℕ). kind b.0 ∷ ((number a.0.0.1.0 ++ a.0.0.1.1) ++ r)) d.parts in
     subst (λ (y : Entry). IsBody bytes y) (some_is (entry_from a.0.0 b.0) x b.2)
-    (record { parts = whole; limits = record { node = t.1.1.0; hash = record { length = t.1.1.1.0; bytes = t.1.1.1.1 }; deed = d.fits } })
+    (record { parts = whole; limits = record { node = t.1.1.0; hash = record { length = t.1.1.1.0; bytes = t.1.1.1.1 }; operation = d.fits } })
 
 abbrev front_of : Entry → Front
-front_of e = (kind e.deed, (e.node, e.hash.0))
+front_of e = (kind e.operation, (e.node, e.hash.0))
 
 pub body_again : (e : Entry) → IsEntry e → body_in (body e) ≡ Some e
 unfolding body_in
 body_again e fits =
-    let one : front_at (body e) ≡ Some (front_of e, details e.deed) = Reads-front.again (front_of e) (details e.deed) (kind_below e.deed, (fits.node, (fits.hash.length, fits.hash.bytes))) in
-    ap (λ (r : Option (Front × List ℕ)). r >>= λ f. deed_in f.0.0 f.1 >>= λ d. Some (entry_from f.0 d)) one
-    ∙ ap (λ (r : Option Deed). r >>= λ d. Some (entry_from (front_of e) d)) (deed_again e.deed fits.deed)
+    let one : front_at (body e) ≡ Some (front_of e, details e.operation) = Reads-front.again (front_of e) (details e.operation) (kind_below e.operation, (fits.node, (fits.hash.length, fits.hash.bytes))) in
+    ap (λ (r : Option (Front × List ℕ)). r >>= λ f. operation_in f.0.0 f.1 >>= λ d. Some (entry_from f.0 d)) one
+    ∙ ap (λ (r : Option Operation). r >>= λ d. Some (entry_from (front_of e) d)) (operation_again e.operation fits.operation)
 
 -- a body has a kind, a node and a hash before its details
-pub body_length : (e : Entry) → length e.hash.0 ≡ HASH_LENGTH → length (body e) ≡ MIN_BODY_LENGTH + length (details e.deed)
-body_length e twenty = omega (arith, length-append e.hash.0 (details e.deed), twenty)
+pub body_length : (e : Entry) → length e.hash.0 ≡ HASH_LENGTH → length (body e) ≡ MIN_BODY_LENGTH + length (details e.operation)
+body_length e twenty = omega (arith, length-append e.hash.0 (details e.operation), twenty)
 
 -- ---- the whole
 

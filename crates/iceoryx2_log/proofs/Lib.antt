@@ -1,5 +1,5 @@
 pub mod Parts
-pub mod Deeds
+pub mod Operations
 pub mod Entries
 pub mod Found
 pub mod EachByte

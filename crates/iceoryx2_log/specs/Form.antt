@@ -4,36 +4,36 @@ use Rattle.std.specs.Int.{w32, to_be_bytes, bit_not}
 use Rattle.sha1.specs.Sha1.{sha1}
 use Rattle.iceoryx2_data.specs.PartForm.{number}
 use Rattle.iceoryx2_description.specs.Description.{IsHash}
-use Rattle.iceoryx2_log.specs.declared.entry.Deed.{Deed}
-use Rattle.iceoryx2_log.specs.declared.entry.Deed.TheVariants.{MakeTag, RemoveTag, Lock, MakeSegment, RemoveSegment}
-use Rattle.iceoryx2_log.specs.declared.entry.Deed.TheVariants.{RemoveDescription, Publish, OpenSegment, Release, Spend, Moved}
+use Rattle.iceoryx2_log.specs.declared.entry.Operation.{Operation}
+use Rattle.iceoryx2_log.specs.declared.entry.Operation.TheVariants.{MakeTag, RemoveTag, Lock, MakeSegment, RemoveSegment}
+use Rattle.iceoryx2_log.specs.declared.entry.Operation.TheVariants.{RemoveDescription, Publish, OpenSegment, Release, Spend, Moved}
 use Rattle.iceoryx2_log.specs.declared.entry.Entry.{Entry}
 use Rattle.iceoryx2_log.specs.declared.form.TheConstants.{HEADER_LENGTH, SUM_LENGTH, MIN_BODY_LENGTH, MAX_BODY_LENGTH}
 
 -- ---- what has a form
 
 -- Its numbers are of 64 bits, and its bytes are bytes.
-abbrev pub IsDeed : Deed → Type 0
-IsDeed MakeTag = Unit {0}
-IsDeed RemoveTag = Unit {0}
-IsDeed (Lock n) = n < 2 ^ 64
-IsDeed (MakeSegment n nodes) = (n < 2 ^ 64) × (nodes < 2 ^ 64)
-IsDeed RemoveSegment = Unit {0}
-IsDeed RemoveDescription = Unit {0}
-IsDeed (Publish n bytes) = (n < 2 ^ 64) × All (λ b. b < 256) bytes
-IsDeed (OpenSegment n ticket) = (n < 2 ^ 64) × (ticket < 2 ^ 64)
-IsDeed (Release ticket n) = (ticket < 2 ^ 64) × (n < 2 ^ 64)
-IsDeed (Spend n) = n < 2 ^ 64
-IsDeed Moved = Unit {0}
+abbrev pub IsOperation : Operation → Type 0
+IsOperation MakeTag = Unit {0}
+IsOperation RemoveTag = Unit {0}
+IsOperation (Lock n) = n < 2 ^ 64
+IsOperation (MakeSegment n nodes) = (n < 2 ^ 64) × (nodes < 2 ^ 64)
+IsOperation RemoveSegment = Unit {0}
+IsOperation RemoveDescription = Unit {0}
+IsOperation (Publish n bytes) = (n < 2 ^ 64) × All (λ b. b < 256) bytes
+IsOperation (OpenSegment n ticket) = (n < 2 ^ 64) × (ticket < 2 ^ 64)
+IsOperation (Release ticket n) = (ticket < 2 ^ 64) × (n < 2 ^ 64)
+IsOperation (Spend n) = n < 2 ^ 64
+IsOperation Moved = Unit {0}
 
 pub record IsEntry (e : Entry) : Type 0 where
   pub node : e.node < 2 ^ 64
   pub hash : IsHash e.hash
-  pub deed : IsDeed e.deed
+  pub operation : IsOperation e.operation
 
 -- ---- the body
 
-abbrev pub kind : Deed → ℕ
+abbrev pub kind : Operation → ℕ
 kind MakeTag = 1
 kind RemoveTag = 2
 kind (Lock n) = 3
@@ -46,8 +46,8 @@ kind (Release ticket n) = 9
 kind (Spend n) = 10
 kind Moved = 11
 
--- the deed's numbers in order, and a description's bytes
-abbrev pub details : Deed → List ℕ
+-- the operation's numbers in order, and a description's bytes
+abbrev pub details : Operation → List ℕ
 details MakeTag = []
 details RemoveTag = []
 details (Lock n) = number n
@@ -61,7 +61,7 @@ details (Spend n) = number n
 details Moved = []
 
 abbrev pub body : Entry → List ℕ
-body e = kind e.deed ∷ number e.node ++ e.hash.0 ++ details e.deed
+body e = kind e.operation ∷ number e.node ++ e.hash.0 ++ details e.operation
 
 -- ---- what stands before the body
 

@@ -4,32 +4,32 @@ use Rattle.std.specs.Prelude.{Option, Some, None, Result, Ok, Err, IsSome, ◌==
 use Rattle.std.specs.Int.{w32, w64, bit_not}
 use Rattle.iceoryx2_data.specs.PartReading.{◌>>=◌, Part, then_at, number_at, bytes_at}
 use Rattle.iceoryx2_description.specs.declared.description.TheConstants.{HASH_LENGTH}
-use Rattle.iceoryx2_log.specs.declared.entry.Deed.{Deed}
-use Rattle.iceoryx2_log.specs.declared.entry.Deed.TheVariants.{MakeTag, RemoveTag, Lock, MakeSegment, RemoveSegment}
-use Rattle.iceoryx2_log.specs.declared.entry.Deed.TheVariants.{RemoveDescription, Publish, OpenSegment, Release, Spend, Moved}
+use Rattle.iceoryx2_log.specs.declared.entry.Operation.{Operation}
+use Rattle.iceoryx2_log.specs.declared.entry.Operation.TheVariants.{MakeTag, RemoveTag, Lock, MakeSegment, RemoveSegment}
+use Rattle.iceoryx2_log.specs.declared.entry.Operation.TheVariants.{RemoveDescription, Publish, OpenSegment, Release, Spend, Moved}
 use Rattle.iceoryx2_log.specs.declared.entry.Entry.{Entry}
 use Rattle.iceoryx2_log.specs.declared.form.TheConstants.{HEADER_LENGTH, SUM_LENGTH, MIN_BODY_LENGTH, MAX_BODY_LENGTH}
 use Rattle.iceoryx2_log.specs.declared.form.reading.EntryError.{EntryError}
 use Rattle.iceoryx2_log.specs.declared.form.reading.EntryError.TheVariants.{CutShort, Malformed, OutOfMemory}
 use Rattle.iceoryx2_log.specs.Form.{sum_of}
 
--- ---- a deed's numbers and bytes, which are all of the bytes
+-- ---- a operation's numbers and bytes, which are all of the bytes
 
-unfoldable pub none_in : Deed → List ℕ → Option Deed
+unfoldable pub none_in : Operation → List ℕ → Option Operation
 none_in d [] = Some d
 none_in d (b ∷ bytes) = None
 
-unfoldable pub number_in : (ℕ → Deed) → List ℕ → Option Deed
+unfoldable pub number_in : (ℕ → Operation) → List ℕ → Option Operation
 number_in to bytes = number_at w64 bytes >>= λ x. none_in (to x.0) x.1
 
-unfoldable pub numbers_in : (ℕ → ℕ → Deed) → List ℕ → Option Deed
+unfoldable pub numbers_in : (ℕ → ℕ → Operation) → List ℕ → Option Operation
 numbers_in to bytes = number_at w64 bytes >>= λ x. number_in (to x.0) x.1
 
-unfoldable pub publish_in : List ℕ → Option Deed
+unfoldable pub publish_in : List ℕ → Option Operation
 publish_in bytes = number_at w64 bytes >>= λ x. Some (Publish x.0 x.1)
 
-unfoldable pub plain_deed_in : ℕ → List ℕ → Option Deed
-plain_deed_in kind bytes = if kind == 1 then none_in MakeTag bytes
+unfoldable pub plain_operation_in : ℕ → List ℕ → Option Operation
+plain_operation_in kind bytes = if kind == 1 then none_in MakeTag bytes
     else if kind == 2 then none_in RemoveTag bytes
     else if kind == 3 then number_in Lock bytes
     else if kind == 4 then numbers_in MakeSegment bytes
@@ -41,8 +41,8 @@ plain_deed_in kind bytes = if kind == 1 then none_in MakeTag bytes
     else if kind == 11 then none_in Moved bytes
     else None
 
-unfoldable pub deed_in : ℕ → List ℕ → Option Deed
-deed_in kind bytes = if kind == 7 then publish_in bytes else plain_deed_in kind bytes
+unfoldable pub operation_in : ℕ → List ℕ → Option Operation
+operation_in kind bytes = if kind == 7 then publish_in bytes else plain_operation_in kind bytes
 
 -- ---- a body
 
@@ -54,11 +54,11 @@ kind_at (b ∷ rest) = Some (b, rest)
 unfoldable pub front_at : Part (ℕ × (ℕ × List ℕ))
 front_at = then_at kind_at (then_at (number_at w64) (bytes_at HASH_LENGTH))
 
-abbrev pub entry_from : ℕ × (ℕ × List ℕ) → Deed → Entry
-entry_from front d = record { node = front.1.0; hash = record { 0 = front.1.1 }; deed = d }
+abbrev pub entry_from : ℕ × (ℕ × List ℕ) → Operation → Entry
+entry_from front d = record { node = front.1.0; hash = record { 0 = front.1.1 }; operation = d }
 
 unfoldable pub body_in : List ℕ → Option Entry
-body_in bytes = front_at bytes >>= λ front. deed_in front.0.0 front.1 >>= λ d. Some (entry_from front.0 d)
+body_in bytes = front_at bytes >>= λ front. operation_in front.0.0 front.1 >>= λ d. Some (entry_from front.0 d)
 
 -- ---- an entry in front of the bytes
 

@@ -76,7 +76,7 @@ impl Clone for FormBytes {
 
 /// What a node did to a service: a granted access that others have to know.
 #[derive(Debug, PartialEq, Eq)]
-pub enum Deed {
+pub enum Operation {
     MakeTag,
     RemoveTag,
     /// The service's number.
@@ -89,31 +89,34 @@ pub enum Deed {
     Release { ticket: u64, number: u64 },
     /// The counter goes on at this number: the node has locked each one before it, and given it up.
     Spend { number: u64 },
-    /// Nobody's deed, and of no service: the log goes on in another place.
+    /// Nobody's operation, and of no service: the log goes on in another place.
     Moved,
 }
 
 // Written out, so that a proof of what lets one go doesn't take its fields apart.
-impl Drop for Deed {
+impl Drop for Operation {
     fn drop(self) {
         match self {
-            Deed::MakeTag | Deed::RemoveTag | Deed::RemoveSegment | Deed::RemoveDescription => {}
-            Deed::Moved => {}
-            Deed::Lock { number: _ } => {}
-            Deed::Spend { number: _ } => {}
-            Deed::MakeSegment {
+            Operation::MakeTag
+            | Operation::RemoveTag
+            | Operation::RemoveSegment
+            | Operation::RemoveDescription => {}
+            Operation::Moved => {}
+            Operation::Lock { number: _ } => {}
+            Operation::Spend { number: _ } => {}
+            Operation::MakeSegment {
                 number: _,
                 max_nodes: _,
             } => {}
-            Deed::Publish {
+            Operation::Publish {
                 number: _,
                 bytes: _,
             } => {}
-            Deed::OpenSegment {
+            Operation::OpenSegment {
                 number: _,
                 ticket: _,
             } => {}
-            Deed::Release {
+            Operation::Release {
                 ticket: _,
                 number: _,
             } => {}
@@ -121,33 +124,33 @@ impl Drop for Deed {
     }
 }
 
-impl Clone for Deed {
+impl Clone for Operation {
     ghost use Rattle.std.specs.Prelude.{◌≡◌};
 
-    ghost is_clone = { λ deed copy. copy ≡ deed };
+    ghost is_clone = { λ operation copy. copy ≡ operation };
 
-    fn clone(&self) -> Result<Deed, AllocError> {
+    fn clone(&self) -> Result<Operation, AllocError> {
         Ok(match self {
-            Deed::MakeTag => Deed::MakeTag,
-            Deed::RemoveTag => Deed::RemoveTag,
-            Deed::Lock { number } => Deed::Lock { number: *number },
-            Deed::MakeSegment { number, max_nodes } => Deed::MakeSegment {
+            Operation::MakeTag => Operation::MakeTag,
+            Operation::RemoveTag => Operation::RemoveTag,
+            Operation::Lock { number } => Operation::Lock { number: *number },
+            Operation::MakeSegment { number, max_nodes } => Operation::MakeSegment {
                 number: *number,
                 max_nodes: *max_nodes,
             },
-            Deed::RemoveSegment => Deed::RemoveSegment,
-            Deed::RemoveDescription => Deed::RemoveDescription,
-            Deed::Spend { number } => Deed::Spend { number: *number },
-            Deed::Moved => Deed::Moved,
-            Deed::Publish { number, bytes } => Deed::Publish {
+            Operation::RemoveSegment => Operation::RemoveSegment,
+            Operation::RemoveDescription => Operation::RemoveDescription,
+            Operation::Spend { number } => Operation::Spend { number: *number },
+            Operation::Moved => Operation::Moved,
+            Operation::Publish { number, bytes } => Operation::Publish {
                 number: *number,
                 bytes: bytes.clone()?,
             },
-            Deed::OpenSegment { number, ticket } => Deed::OpenSegment {
+            Operation::OpenSegment { number, ticket } => Operation::OpenSegment {
                 number: *number,
                 ticket: *ticket,
             },
-            Deed::Release { ticket, number } => Deed::Release {
+            Operation::Release { ticket, number } => Operation::Release {
                 ticket: *ticket,
                 number: *number,
             },
@@ -160,7 +163,7 @@ impl Clone for Deed {
 pub struct Entry {
     pub node: u64,
     pub hash: ServiceHash,
-    pub deed: Deed,
+    pub operation: Operation,
 }
 
 // Written out, so that a proof of what lets one go doesn't take its fields apart.
@@ -169,7 +172,7 @@ impl Drop for Entry {
         let Entry {
             node: _,
             hash: _,
-            deed: _,
+            operation: _,
         } = self;
     }
 }
@@ -183,7 +186,7 @@ impl Clone for Entry {
         Ok(Entry {
             node: self.node,
             hash: self.hash,
-            deed: self.deed.clone()?,
+            operation: self.operation.clone()?,
         })
     }
 }

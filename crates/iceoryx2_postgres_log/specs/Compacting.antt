@@ -3,7 +3,7 @@ use Rattle.std.specs.Prelude.{◌≡◌, ◌⊎◌, ℕ, ◌+◌, true}
 use Rattle.std.specs.Prelude.{List, [], ◌∷◌, ◌++◌, Option, Some, None, All, codes, length}
 use Rattle.std.specs.Io.KnownBytes.{Appends}
 use Rattle.iceoryx2_log.specs.declared.entry.Entry.{Entry}
-use Rattle.iceoryx2_log.specs.declared.entry.Deed.TheVariants.{Moved}
+use Rattle.iceoryx2_log.specs.declared.entry.Operation.TheVariants.{Moved}
 use Rattle.iceoryx2_log.specs.Form.{IsForm}
 use Rattle.iceoryx2_postgres_log.specs.declared.fault.PostgresFault.{PostgresFault}
 use Rattle.iceoryx2_postgres_log.specs.declared.fault.PostgresFault.TheVariants as fault
@@ -22,7 +22,7 @@ pub record IsMark (form : List ℕ) : Type 0 where
   pub mark : Entry
   pub node : mark.node ≡ 0
   pub hash : All (λ b. b ≡ 0) mark.hash.0
-  pub moves : mark.deed ≡ Moved
+  pub moves : mark.operation ≡ Moved
   pub is_form : IsForm mark form
 
 -- Two rows tell places with one sum: the mark's, of this number, and the one before the next generation's first entry.

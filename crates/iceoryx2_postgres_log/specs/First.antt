@@ -1,7 +1,7 @@
 -- The entry of the first row that is unread.
 use Rattle.std.specs.Prelude.{◌≡◌, ◌≢◌, ℕ, List, [], ◌∷◌, Option, Some, None, length}
 use Rattle.iceoryx2_log.specs.declared.entry.Entry.{Entry}
-use Rattle.iceoryx2_log.specs.declared.entry.Deed.TheVariants.{Moved}
+use Rattle.iceoryx2_log.specs.declared.entry.Operation.TheVariants.{Moved}
 use Rattle.iceoryx2_log.specs.Form.{Begins}
 use Rattle.iceoryx2_postgres_log.specs.declared.fault.PostgresFault.{PostgresFault}
 use Rattle.iceoryx2_postgres_log.specs.declared.fault.PostgresFault.TheVariants as fault
@@ -17,13 +17,13 @@ pub record ShowsFirst (e : Entry) (ahead : List Row) : Type 0 where
 -- Such an entry, which is no mark; or there is no row.
 abbrev pub Shows : Option Entry → List Row → Type 0
 Shows None ahead = ahead ≡ []
-Shows (Some e) ahead = ShowsFirst e ahead × (e.deed ≢ Moved)
+Shows (Some e) ahead = ShowsFirst e ahead × (e.operation ≢ Moved)
 
 -- The first of the unread rows tells a mark.
 pub record ShowsMark (ahead : List Row) : Type 0 where
   pub mark : Entry
   pub first : ShowsFirst mark ahead
-  pub moves : mark.deed ≡ Moved
+  pub moves : mark.operation ≡ Moved
 
 -- The bytes of the first of the unread rows are no entry's form.
 pub record IsDamaged (ahead : List Row) (number : ℕ) : Type 0 where

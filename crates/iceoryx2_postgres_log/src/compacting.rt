@@ -5,7 +5,7 @@
 
 ghost use Rattle.std.specs.Prelude.{◌≡◌, ◌≢◌, ◌⊎◌, true, Err, IfOk, IfErr, OnOk, OnErr, IsTrue, All, codes, length};
 ghost use Rattle.std.specs.Io.KnownBytes.{Appends};
-ghost use Rattle.iceoryx2_log.specs.declared.entry.Deed.TheVariants as deed;
+ghost use Rattle.iceoryx2_log.specs.declared.entry.Operation.TheVariants as operation;
 ghost use Rattle.iceoryx2_postgres_log.specs.declared.fault.PostgresFault.TheVariants as fault;
 ghost use Rattle.iceoryx2_postgres_log.specs.Faults.{is_over_by, IsGrave};
 ghost use Rattle.iceoryx2_postgres_log.specs.Questions as text;
@@ -23,7 +23,7 @@ use crate::reply::{Reply, ask, write_question};
 use crate::row::{Row, SUM_LENGTH, place_front};
 use crate::standing::{Standing, first_place};
 use iceoryx2_description::description::ServiceHash;
-use iceoryx2_log::entry::{Deed, Entry};
+use iceoryx2_log::entry::{Entry, Operation};
 use std::alloc::Global;
 use std::collections::VecDeque;
 use std::io::{BufRead, Write};
@@ -34,12 +34,12 @@ use std::io::{BufRead, Write};
 fn mark() -> Entry
     ensures node { result.node ≡ 0 }
     ensures hash { All (λ b. b ≡ 0) result.hash.0 }
-    ensures deed { result.deed ≡ deed.Moved }
+    ensures operation { result.operation ≡ operation.Moved }
 {
     Entry {
         node: 0,
         hash: ServiceHash([0; 20]),
-        deed: Deed::Moved,
+        operation: Operation::Moved,
     }
 }
 

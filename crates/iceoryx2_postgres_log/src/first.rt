@@ -2,14 +2,14 @@
 
 ghost use Rattle.std.specs.Prelude.{◌≡◌, ◌≢◌, ◌⊎◌, ◌↔◌, IfOk, IfErr, IsTrue, MatchResult, length};
 ghost use Rattle.iceoryx2_log.specs.declared.entry.Entry as declared;
-ghost use Rattle.iceoryx2_log.specs.declared.entry.Deed.TheVariants as deed;
+ghost use Rattle.iceoryx2_log.specs.declared.entry.Operation.TheVariants as operation;
 ghost use Rattle.iceoryx2_log.specs.Form.{Begins};
 ghost use Rattle.iceoryx2_postgres_log.specs.declared.fault.PostgresFault.TheVariants as fault;
 ghost use Rattle.iceoryx2_postgres_log.specs.First.{Shows, WhyNone};
 
 use crate::fault::PostgresFault;
 use crate::row::Row;
-use iceoryx2_log::entry::{Deed, Entry};
+use iceoryx2_log::entry::{Entry, Operation};
 use iceoryx2_log::form::{EntryError, decode};
 use std::alloc::Global;
 use std::collections::VecDeque;
@@ -38,10 +38,10 @@ fn entry_of(alloc: Global, number: u64, form: &[u8]) -> Result<Entry, PostgresFa
 
 /// Whether the entry marks that the log goes on in its next generation.
 pub fn is_mark(entry: &Entry) -> bool
-    ensures { IsTrue result ↔ (entry.now.deed ≡ deed.Moved) }
+    ensures { IsTrue result ↔ (entry.now.operation ≡ operation.Moved) }
 {
-    match entry.deed {
-        Deed::Moved => true,
+    match entry.operation {
+        Operation::Moved => true,
         _ => false,
     }
 }

@@ -6,7 +6,7 @@
 ghost use Rattle.std.specs.Prelude.{◌≡◌, ◌≢◌, ◌+◌, ◌*◌, ◌<◌, ◌≤◌, ◌⊎◌, ◌∷◌, [], Ok, Err, Some, None, true, false};
 ghost use Rattle.std.specs.Prelude.{IfOk, IfErr, IfSome, OnOk, OnErr, IsTrue, codes, length, nat_lt, string_bytes};
 ghost use Rattle.std.specs.Io.KnownBytes.{Appends};
-ghost use Rattle.iceoryx2_log.specs.declared.entry.Deed.TheVariants as deed;
+ghost use Rattle.iceoryx2_log.specs.declared.entry.Operation.TheVariants as operation;
 ghost use Rattle.iceoryx2_log.specs.declared.log.LogError.TheVariants as error;
 ghost use Rattle.iceoryx2_log.specs.Log.{is_shown};
 ghost use Rattle.iceoryx2_postgres_log.specs.declared.fault.PostgresFault.TheVariants as fault;
@@ -538,7 +538,7 @@ impl<R: BufRead, W: Write> Log for PostgresLog<R, W> {
     fn append(&mut self, entry: &Entry) -> Result<(), LogError>
         ensures was { OnOk result (MayAppend self.old.fault self.old.mode self.old.ahead.items self.old.at.number
             self.old.until) }
-        ensures no_mark { OnOk result (entry.now.deed ≢ deed.Moved) }
+        ensures no_mark { OnOk result (entry.now.operation ≢ operation.Moved) }
         ensures done { OnOk result (Appended self.old.at entry.now (W.contents self.old.questions)
             (W.contents self.new.questions) (R.remaining self.old.replies) (R.remaining self.new.replies)
             self.new.at.place) }

@@ -8,7 +8,7 @@ pub use iceoryx2_file_log::options::{FileLogOptions, Sharing};
 pub use iceoryx2_journal::cleaning::{AdoptError, CleanError, Cleaned};
 pub use iceoryx2_journal::journal::{Journal, Shared};
 pub use iceoryx2_log::call_log::{CallLog, SpansCalls};
-pub use iceoryx2_log::entry::{Deed, Entry, FormBytes};
+pub use iceoryx2_log::entry::{Entry, FormBytes, Operation};
 pub use iceoryx2_log::log::{Log, LogError};
 pub use iceoryx2_log::memory::{Batch, MemoryLog};
 pub use iceoryx2_table::holdings::Holding;

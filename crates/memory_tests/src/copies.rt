@@ -1,7 +1,7 @@
 //! Copies, and the types of messages.
 
 use crate::samples;
-use crate::trial::{Came, Making, Wrong, each_request_of};
+use crate::trial::{Came, Making, TrialError, each_request_of};
 use iceoryx2_builder::builder::{self, Node};
 use iceoryx2_description::config::Config;
 use iceoryx2_table::local::Local;
@@ -28,18 +28,18 @@ impl<T: Clone + Drop> Making for Copied<T> {
 }
 
 /// Copied a value again and again.
-fn copies<T: Clone + Drop>(alloc: Global, mode: Mode, source: T) -> Result<u64, Wrong> {
+fn copies<T: Clone + Drop>(alloc: Global, mode: Mode, source: T) -> Result<u64, TrialError> {
     each_request_of(alloc, mode, Copied { source })
 }
 
 /// Where the builders of node 1 begin.
-fn beginning(alloc: Global) -> Result<builder::Builder<Local>, Wrong> {
+fn beginning(alloc: Global) -> Result<builder::Builder<Local>, TrialError> {
     let node = Node::<Local>::new(1, Config::default());
     Ok(node.service_builder(samples::name(alloc, samples::NAME)?))
 }
 
 /// Copied the builder of each pattern, with types that are named.
-pub fn clone_builders(alloc: Global, mode: Mode) -> Result<u64, Wrong> {
+pub fn clone_builders(alloc: Global, mode: Mode) -> Result<u64, TrialError> {
     let events = copies(alloc, mode, beginning(alloc)?.event())?;
     let messages = beginning(alloc)?
         .publish_subscribe::<Slice<CustomPayloadMarker>>()
@@ -56,7 +56,7 @@ pub fn clone_builders(alloc: Global, mode: Mode) -> Result<u64, Wrong> {
 }
 
 /// Copied a name, attributes, requirements and types.
-pub fn clone_values(alloc: Global, mode: Mode) -> Result<u64, Wrong> {
+pub fn clone_values(alloc: Global, mode: Mode) -> Result<u64, TrialError> {
     let name = copies(alloc, mode, samples::name(alloc, samples::NAME)?)?;
     let attributes = copies(alloc, mode, samples::pairs(alloc, 5)?.into_attributes())?;
     let requirements = copies(alloc, mode, samples::requirements(alloc, 5)?)?;
@@ -84,6 +84,6 @@ impl Making for Messages {
 }
 
 /// Makes them again and again.
-pub fn message_types(alloc: Global, mode: Mode) -> Result<u64, Wrong> {
+pub fn message_types(alloc: Global, mode: Mode) -> Result<u64, TrialError> {
     each_request_of(alloc, mode, Messages)
 }

@@ -2,7 +2,7 @@
 
 use crate::samples::{NAME, OTHER, prepared};
 use crate::sessions::{call, is_opened};
-use crate::trial::{Trial, Wrong, each_request};
+use crate::trial::{Trial, TrialError, each_request};
 use iceoryx2_builder::command::{How, Reply};
 use iceoryx2_description::config::Config;
 use iceoryx2_journal::journal::Journal;
@@ -33,7 +33,11 @@ fn end_sharing(session: Sharing) {
 }
 
 /// Copies of the first entries.
-fn first_entries(alloc: Global, entries: &[Entry], number: usize) -> Result<Vec<Entry>, Wrong> {
+fn first_entries(
+    alloc: Global,
+    entries: &[Entry],
+    number: usize,
+) -> Result<Vec<Entry>, TrialError> {
     let mut copies = Vec::new(alloc);
     for entry in entries.iter().take(number) {
         prepared(copies.push(prepared(entry.clone())?))?;
@@ -46,7 +50,7 @@ fn created_and_opened(
     alloc: Global,
     pattern: Pattern,
     session: &mut Sharing,
-) -> Result<Vec<Entry>, Wrong> {
+) -> Result<Vec<Entry>, TrialError> {
     let _ = session.carry_out(call(alloc, pattern, How::Create, (2, 0, NAME))?);
     let _ = session.carry_out(call(alloc, pattern, How::Open, (3, 1, NAME))?);
     let entries = session.storage().log().entries();
@@ -54,7 +58,7 @@ fn created_and_opened(
 }
 
 /// The entries of node 2, which creates the service, and of node 3, which opens it.
-fn entries_of_others(alloc: Global, pattern: Pattern) -> Result<Vec<Entry>, Wrong> {
+fn entries_of_others(alloc: Global, pattern: Pattern) -> Result<Vec<Entry>, TrialError> {
     let nodes = prepared([2u64, 3].to_vec(alloc))?;
     let mut session = sharing(alloc, Vec::new(alloc), nodes);
     let entries = created_and_opened(alloc, pattern, &mut session);
@@ -63,7 +67,7 @@ fn entries_of_others(alloc: Global, pattern: Pattern) -> Result<Vec<Entry>, Wron
 }
 
 /// What a process lists that has these entries and memory.
-fn listed(alloc: Global, entries: Vec<Entry>) -> Result<Vec<listing::Entry>, Wrong> {
+fn listed(alloc: Global, entries: Vec<Entry>) -> Result<Vec<listing::Entry>, TrialError> {
     let log = MemoryLog::from_entries(alloc, entries, 0);
     let mut journal = Journal::starting_at(alloc, log, Vec::new(alloc), 0);
     journal.refresh();
@@ -71,7 +75,7 @@ fn listed(alloc: Global, entries: Vec<Entry>) -> Result<Vec<listing::Entry>, Wro
 }
 
 /// Whether a journal lists what the entries come to that it has taken over or appended.
-fn is_as_its_log(alloc: Global, journal: &Journal<MemoryLog>) -> Result<bool, Wrong> {
+fn is_as_its_log(alloc: Global, journal: &Journal<MemoryLog>) -> Result<bool, TrialError> {
     let log = journal.log();
     let taken = first_entries(alloc, log.entries(), log.taken())?;
     Ok(!journal.is_over() && prepared(journal.list())? == listed(alloc, taken)?)
@@ -97,7 +101,7 @@ fn has_report(text: &str) -> bool {
 
 /// Whether a reply says that there was no memory, or that the log refused. An open may go on by another round, unless
 /// that finds no memory either.
-fn is_reported(alloc: Global, reply: &Reply, refusing: Refusing) -> Result<bool, Wrong> {
+fn is_reported(alloc: Global, reply: &Reply, refusing: Refusing) -> Result<bool, TrialError> {
     match reply {
         Reply::Opened { slot: _, number: _ } => match refusing {
             Refusing::One(_) => Ok(true),
@@ -118,7 +122,7 @@ fn follow_on(
     followed: Followed,
     is_opened_already: bool,
     session: &mut Sharing,
-) -> Result<bool, Wrong> {
+) -> Result<bool, TrialError> {
     let is_kept = is_as_its_log(alloc, session.storage())?;
     let slot = usize::from(is_opened_already);
     let again = call(
@@ -138,7 +142,7 @@ fn follow_on(
     if is_kept && is_whole && is_wanted && is_as_its_log(alloc, session.storage())? {
         Ok(true)
     } else {
-        Err(Wrong::Changed)
+        Err(TrialError::Changed)
     }
 }
 
@@ -148,7 +152,7 @@ fn attempt_in(
     followed: Followed,
     refusing: Refusing,
     session: &mut Sharing,
-) -> Result<bool, Wrong> {
+) -> Result<bool, TrialError> {
     let command = call(alloc, followed.pattern, followed.how, (1, 0, followed.text))?;
     refuse(alloc, refusing);
     let reply = session.carry_out(command);
@@ -157,21 +161,21 @@ fn attempt_in(
             if is_opened(&reply) {
                 Ok(false)
             } else {
-                Err(Wrong::Answer)
+                Err(TrialError::Answer)
             }
         }
         _ => {
             if is_reported(alloc, &reply, refusing)? {
                 follow_on(alloc, followed, is_opened(&reply), session)
             } else {
-                Err(Wrong::NotReported)
+                Err(TrialError::NotReported)
             }
         }
     }
 }
 
 impl Trial for Followed {
-    fn attempt(&mut self, alloc: Global, refusing: Refusing) -> Result<bool, Wrong> {
+    fn attempt(&mut self, alloc: Global, refusing: Refusing) -> Result<bool, TrialError> {
         let entries = entries_of_others(alloc, self.pattern)?;
         let nodes = prepared([1u64].to_vec(alloc))?;
         let mut session = sharing(alloc, entries, nodes);
@@ -182,7 +186,7 @@ impl Trial for Followed {
 }
 
 /// Three calls of a pattern behind what others appended: for their service, and for another one.
-pub fn calls(alloc: Global, mode: Mode, pattern: Pattern) -> Result<u64, Wrong> {
+pub fn calls(alloc: Global, mode: Mode, pattern: Pattern) -> Result<u64, TrialError> {
     let is_alone = match mode {
         Mode::Alone => true,
         Mode::AndLater => false,

@@ -17,7 +17,7 @@ mod sessions;
 mod trial;
 mod unneeded;
 
-use crate::trial::Wrong;
+use crate::trial::TrialError;
 use std::alloc::Global;
 use std::io;
 use std::process::ExitCode;
@@ -25,7 +25,7 @@ use test_support::patterns::Pattern;
 use test_support::refusing::{MODES, Mode};
 
 /// How many requests were refused in a scenario, or what is wrong.
-type Outcome = Result<u64, Wrong>;
+type Outcome = Result<u64, TrialError>;
 
 /// Writes what a scenario came to, and returns whether it went well.
 fn print_outcome(rt: &HostRuntime, whose: &str, label: &str, outcome: Outcome) -> io::Result<bool> {

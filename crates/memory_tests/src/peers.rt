@@ -1,7 +1,7 @@
 //! Steps of peers that ask for no memory.
 
 use crate::samples::{self, drop_table, prepared};
-use crate::trial::{Wrong, refuse_all, without_memory};
+use crate::trial::{TrialError, refuse_all, without_memory};
 use iceoryx2_access::storage::Storage;
 use iceoryx2_attribute::attribute::AttributeSet;
 use iceoryx2_description::description::ServiceHash;
@@ -14,7 +14,7 @@ const MAX_NODES: u64 = 36;
 
 /// What a peer does. What it makes and publishes is for that many nodes.
 #[derive(Clone, Copy)]
-enum Deed {
+enum Operation {
     Read,
     Lock,
     Make,
@@ -25,29 +25,29 @@ enum Deed {
     RemoveDescription,
 }
 
-fn act(alloc: Global, deed: Deed) -> Result<Act, Wrong> {
-    Ok(match deed {
-        Deed::Read => Act::Read,
-        Deed::Lock => Act::Lock,
-        Deed::Make => Act::Make {
+fn act(alloc: Global, operation: Operation) -> Result<Act, TrialError> {
+    Ok(match operation {
+        Operation::Read => Act::Read,
+        Operation::Lock => Act::Lock,
+        Operation::Make => Act::Make {
             max_nodes: MAX_NODES,
         },
-        Deed::Publish => Act::Publish(samples::description(alloc, AttributeSet::new(alloc))?),
-        Deed::Join => Act::Join,
-        Deed::Leave => Act::Leave,
-        Deed::RemoveSegment => Act::RemoveSegment,
-        Deed::RemoveDescription => Act::RemoveDescription,
+        Operation::Publish => Act::Publish(samples::description(alloc, AttributeSet::new(alloc))?),
+        Operation::Join => Act::Join,
+        Operation::Leave => Act::Leave,
+        Operation::RemoveSegment => Act::RemoveSegment,
+        Operation::RemoveDescription => Act::RemoveDescription,
     })
 }
 
 /// A batch of what a peer does.
-fn batch(alloc: Global, peer: u64, deeds: &[Deed]) -> Result<Vec<Step>, Wrong> {
+fn batch(alloc: Global, peer: u64, operations: &[Operation]) -> Result<Vec<Step>, TrialError> {
     let mut batch = Vec::new(alloc);
-    for deed in deeds {
+    for operation in operations {
         let step = Step {
             peer,
             hash: samples::hash(alloc)?,
-            act: act(alloc, *deed)?,
+            act: act(alloc, *operation)?,
         };
         prepared(batch.push(step))?;
     }
@@ -55,14 +55,18 @@ fn batch(alloc: Global, peer: u64, deeds: &[Deed]) -> Result<Vec<Step>, Wrong> {
 }
 
 /// The only batch.
-fn batches(alloc: Global, peer: u64, deeds: &[Deed]) -> Result<Vec<Vec<Step>>, Wrong> {
+fn batches(
+    alloc: Global,
+    peer: u64,
+    operations: &[Operation],
+) -> Result<Vec<Vec<Step>>, TrialError> {
     let mut batches = Vec::new(alloc);
-    prepared(batches.push(batch(alloc, peer, deeds)?))?;
+    prepared(batches.push(batch(alloc, peer, operations)?))?;
     Ok(batches)
 }
 
 /// What creates a service for 36 nodes.
-const CREATION: [Deed; 3] = [Deed::Lock, Deed::Make, Deed::Publish];
+const CREATION: [Operation; 3] = [Operation::Lock, Operation::Make, Operation::Publish];
 
 /// The numbers of a published service and of its segment, if there is one, and of its participants.
 type Contents = Option<(u64, Option<(u64, u64)>)>;
@@ -91,11 +95,11 @@ fn contents(entries: &[Entry]) -> Contents {
 fn run(
     alloc: Global,
     peer: u64,
-    deeds: &[Deed],
+    operations: &[Operation],
     hash: &ServiceHash,
     table: &mut Table,
-) -> Result<(), Wrong> {
-    table.schedule(batches(alloc, peer, deeds)?);
+) -> Result<(), TrialError> {
+    table.schedule(batches(alloc, peer, operations)?);
     let _ = table.exists(hash);
     Ok(())
 }
@@ -103,11 +107,11 @@ fn run(
 /// Runs one step with every request refused, after which the table has to have this.
 fn run_refused(
     alloc: Global,
-    (peer, deed, wanted): (u64, Deed, Contents),
+    (peer, operation, wanted): (u64, Operation, Contents),
     hash: &ServiceHash,
     table: &mut Table,
-) -> Result<u64, Wrong> {
-    let steps = batches(alloc, peer, &[deed])?;
+) -> Result<u64, TrialError> {
+    let steps = batches(alloc, peer, &[operation])?;
     refuse_all(alloc);
     table.schedule(steps);
     let _ = table.exists(hash);
@@ -117,25 +121,25 @@ fn run_refused(
     if contents(entries.as_slice()) == wanted {
         Ok(came)
     } else {
-        Err(Wrong::Changed)
+        Err(TrialError::Changed)
     }
 }
 
 /// Steps that are never skipped: to read again, to join again, to leave, and to remove.
-fn run_all_refused(alloc: Global, table: &mut Table) -> Result<u64, Wrong> {
+fn run_all_refused(alloc: Global, table: &mut Table) -> Result<u64, TrialError> {
     let hash = samples::hash(alloc)?;
     run(alloc, 7, &CREATION, &hash, table)?;
-    run(alloc, 8, &[Deed::Read], &hash, table)?;
+    run(alloc, 8, &[Operation::Read], &hash, table)?;
     let one = Some((0, Some((0, 1))));
     let mut all = 0u64;
     for step in [
-        (8u64, Deed::Read, one),
+        (8u64, Operation::Read, one),
         // a peer that has joined twice is one participant, and has to leave twice
-        (7, Deed::Join, one),
-        (7, Deed::Leave, one),
-        (7, Deed::Leave, Some((0, Some((0, 0))))),
-        (7, Deed::RemoveSegment, Some((0, None))),
-        (7, Deed::RemoveDescription, None),
+        (7, Operation::Join, one),
+        (7, Operation::Leave, one),
+        (7, Operation::Leave, Some((0, Some((0, 0))))),
+        (7, Operation::RemoveSegment, Some((0, None))),
+        (7, Operation::RemoveDescription, None),
     ] {
         all = all.saturating_add(run_refused(alloc, step, &hash, table)?);
     }
@@ -143,7 +147,7 @@ fn run_all_refused(alloc: Global, table: &mut Table) -> Result<u64, Wrong> {
 }
 
 /// Steps that are never skipped have their effect with every request refused.
-pub fn never_skip(alloc: Global) -> Result<u64, Wrong> {
+pub fn never_skip(alloc: Global) -> Result<u64, TrialError> {
     let mut table = Table::new(alloc);
     let came = run_all_refused(alloc, &mut table);
     drop_table(table);

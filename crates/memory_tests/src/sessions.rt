@@ -1,7 +1,7 @@
 //! Commands of a session: a run that finds no memory for its replies, and what asks for none.
 
 use crate::samples::{self, NAME, OTHER, drop_table, prepared};
-use crate::trial::{Wrong, refuse_all, without_memory};
+use crate::trial::{TrialError, refuse_all, without_memory};
 use iceoryx2_builder::command::{
     Command, How, PublishSubscribeSetter, Reply, RequestResponseSetter, Settings,
 };
@@ -15,14 +15,14 @@ use test_support::patterns::Pattern;
 use test_support::refusing::{Mode, Refused, end, is_obeyed, refuse};
 
 /// A vector of one thing.
-fn only<T: Drop>(alloc: Global, one: T) -> Result<Vec<T>, Wrong> {
+fn only<T: Drop>(alloc: Global, one: T) -> Result<Vec<T>, TrialError> {
     let mut all = Vec::new(alloc);
     prepared(all.push(one))?;
     Ok(all)
 }
 
 /// The setters of a call, of which one names a type where the pattern has types.
-fn settings(alloc: Global, pattern: Pattern) -> Result<Settings, Wrong> {
+fn settings(alloc: Global, pattern: Pattern) -> Result<Settings, TrialError> {
     Ok(match pattern {
         Pattern::Event => Settings::Event(Vec::new(alloc)),
         Pattern::PublishSubscribe => {
@@ -42,7 +42,7 @@ pub fn call(
     pattern: Pattern,
     how: How,
     (node, slot, text): (u64, usize, &str),
-) -> Result<Command, Wrong> {
+) -> Result<Command, TrialError> {
     let name = samples::name(alloc, text)?;
     let settings = settings(alloc, pattern)?;
     let attributes = samples::one_pair(alloc)?;
@@ -92,7 +92,7 @@ fn is_empty(table: &Table) -> bool {
 }
 
 /// Two creates.
-fn commands(alloc: Global) -> Result<Vec<Command>, Wrong> {
+fn commands(alloc: Global) -> Result<Vec<Command>, TrialError> {
     let mut commands = Vec::new(alloc);
     prepared(commands.push(call(alloc, Pattern::Event, How::Create, (1, 0, NAME))?))?;
     prepared(commands.push(call(alloc, Pattern::Event, How::Create, (1, 1, OTHER))?))?;
@@ -100,31 +100,31 @@ fn commands(alloc: Global) -> Result<Vec<Command>, Wrong> {
 }
 
 /// A run whose first request is refused.
-fn run_in(alloc: Global, mode: Mode, session: &mut Session<Table>) -> Result<u64, Wrong> {
+fn run_in(alloc: Global, mode: Mode, session: &mut Session<Table>) -> Result<u64, TrialError> {
     let commands = commands(alloc)?;
     refuse(alloc, mode.refusing(1));
     let replies = session.run(commands);
     let refused = end(alloc);
     let table = session.storage();
     match (refused, replies.is_ok()) {
-        (Refused::None, false) => Err(Wrong::Answer),
-        (Refused::None, true) if table.counter() != 2 => Err(Wrong::Answer),
-        (Refused::None, true) if is_obeyed(alloc) => Err(Wrong::NoneRefused),
+        (Refused::None, false) => Err(TrialError::Answer),
+        (Refused::None, true) if table.counter() != 2 => Err(TrialError::Answer),
+        (Refused::None, true) if is_obeyed(alloc) => Err(TrialError::NoneRefused),
         (Refused::None, true) => Ok(0),
-        (Refused::One, true) => Err(Wrong::NotReported),
+        (Refused::One, true) => Err(TrialError::NotReported),
         (Refused::One, false) if is_empty(table) && table.counter() == 0 => Ok(1),
-        (Refused::One, false) => Err(Wrong::Changed),
-        (Refused::More, _) => Err(Wrong::AskedAgain),
+        (Refused::One, false) => Err(TrialError::Changed),
+        (Refused::More, _) => Err(TrialError::AskedAgain),
     }
 }
 
 /// A run whose first request is refused, alone or with all later ones, applies nothing.
-pub fn run(alloc: Global, mode: Mode) -> Result<u64, Wrong> {
+pub fn run(alloc: Global, mode: Mode) -> Result<u64, TrialError> {
     in_session! { alloc, session => run_in(alloc, mode, &mut session) }
 }
 
 /// Node 1 has the service of each pattern in two slots, and node 2 in one.
-fn open_all(alloc: Global, session: &mut Session<Table>) -> Result<(), Wrong> {
+fn open_all(alloc: Global, session: &mut Session<Table>) -> Result<(), TrialError> {
     for (pattern, created, opened, opened_by_2) in [
         (Pattern::Event, 0usize, 1usize, 2usize),
         (Pattern::PublishSubscribe, 3, 4, 5),
@@ -138,7 +138,7 @@ fn open_all(alloc: Global, session: &mut Session<Table>) -> Result<(), Wrong> {
 }
 
 /// Closes the slots one by one.
-fn close_all(alloc: Global, session: &mut Session<Table>) -> Result<u64, Wrong> {
+fn close_all(alloc: Global, session: &mut Session<Table>) -> Result<u64, TrialError> {
     open_all(alloc, session)?;
     let mut all = 0u64;
     for slot in 0..9usize {
@@ -150,17 +150,17 @@ fn close_all(alloc: Global, session: &mut Session<Table>) -> Result<u64, Wrong> 
     if is_empty(session.storage()) {
         Ok(all)
     } else {
-        Err(Wrong::Changed)
+        Err(TrialError::Changed)
     }
 }
 
 /// A close of one of a node's factories, of its last one, and of the last one of all nodes, by each pattern.
-pub fn close(alloc: Global) -> Result<u64, Wrong> {
+pub fn close(alloc: Global) -> Result<u64, TrialError> {
     in_session! { alloc, session => close_all(alloc, &mut session) }
 }
 
 /// A session that ends with all these slots taken.
-pub fn finish(alloc: Global) -> Result<u64, Wrong> {
+pub fn finish(alloc: Global) -> Result<u64, TrialError> {
     let mut session = new_session(alloc);
     let opened = open_all(alloc, &mut session);
     refuse_all(alloc);
@@ -168,11 +168,15 @@ pub fn finish(alloc: Global) -> Result<u64, Wrong> {
     let came = without_memory(alloc, opened.is_ok());
     let is_empty = is_empty(&table);
     drop_table(table);
-    if is_empty { came } else { Err(Wrong::Changed) }
+    if is_empty {
+        came
+    } else {
+        Err(TrialError::Changed)
+    }
 }
 
 /// New tables and a session over one.
-pub fn begin(alloc: Global) -> Result<u64, Wrong> {
+pub fn begin(alloc: Global) -> Result<u64, TrialError> {
     refuse_all(alloc);
     let empty = Table::new(alloc);
     let table = Table::starting_at(alloc, 7);

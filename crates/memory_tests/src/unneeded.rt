@@ -1,7 +1,7 @@
 //! What asks for no memory, with every request refused.
 
 use crate::samples::{self, NAME, drop_table, prepared};
-use crate::trial::{Wrong, refuse_all, without_memory};
+use crate::trial::{TrialError, refuse_all, without_memory};
 use iceoryx2_builder::builder::Node;
 use iceoryx2_builder::command::{EventSetter, RequestResponseSetter};
 use iceoryx2_description::config::Config;
@@ -24,7 +24,7 @@ fn drop_builder<B: Drop>(builder: B) {
 }
 
 /// The setters of events, behind the choice of the pattern.
-fn set_events(alloc: Global) -> Result<u64, Wrong> {
+fn set_events(alloc: Global) -> Result<u64, TrialError> {
     let node = Node::<Local>::new(1, Config::default());
     let name = samples::name(alloc, NAME)?;
     refuse_all(alloc);
@@ -46,7 +46,7 @@ fn set_events(alloc: Global) -> Result<u64, Wrong> {
 }
 
 /// A name and two types.
-fn name_and_types(alloc: Global) -> Result<(ServiceName, TypeDetail, TypeDetail), Wrong> {
+fn name_and_types(alloc: Global) -> Result<(ServiceName, TypeDetail, TypeDetail), TrialError> {
     let name = samples::name(alloc, NAME)?;
     let payload = samples::detail(alloc)?;
     let user_header = samples::detail(alloc)?;
@@ -54,11 +54,11 @@ fn name_and_types(alloc: Global) -> Result<(ServiceName, TypeDetail, TypeDetail)
 }
 
 /// The setters of publish-subscribe, with another user header.
-fn set_messages(alloc: Global) -> Result<u64, Wrong> {
+fn set_messages(alloc: Global) -> Result<u64, TrialError> {
     let node = Node::<Local>::new(1, Config::default());
     let (name, payload, user_header) = name_and_types(alloc)?;
     let Some(alignment) = Alignment::new(16) else {
-        return Err(Wrong::Preparation);
+        return Err(TrialError::Preparation);
     };
     refuse_all(alloc);
     let builder = node
@@ -81,7 +81,7 @@ fn set_messages(alloc: Global) -> Result<u64, Wrong> {
 }
 
 /// The setters of request-response, with other user headers.
-fn set_requests(alloc: Global) -> Result<u64, Wrong> {
+fn set_requests(alloc: Global) -> Result<u64, TrialError> {
     let node = Node::<Local>::new(1, Config::default());
     let (name, payload, user_header) = name_and_types(alloc)?;
     refuse_all(alloc);
@@ -108,7 +108,7 @@ fn set_requests(alloc: Global) -> Result<u64, Wrong> {
 }
 
 /// The setters of all patterns.
-pub fn set(alloc: Global) -> Result<u64, Wrong> {
+pub fn set(alloc: Global) -> Result<u64, TrialError> {
     Ok(
         set_events(alloc)?
             .saturating_add(set_messages(alloc)?)
@@ -117,7 +117,7 @@ pub fn set(alloc: Global) -> Result<u64, Wrong> {
 }
 
 /// What is required of attributes, and whether messages are compatible.
-pub fn judge(alloc: Global) -> Result<u64, Wrong> {
+pub fn judge(alloc: Global) -> Result<u64, TrialError> {
     let attributes = samples::specifier(alloc)?;
     let met = samples::verifier(alloc)?;
     let unmet = samples::requirements(alloc, 2)?;
@@ -130,7 +130,7 @@ pub fn judge(alloc: Global) -> Result<u64, Wrong> {
 }
 
 /// Tells a creator in a description.
-pub fn add_creator(alloc: Global) -> Result<u64, Wrong> {
+pub fn add_creator(alloc: Global) -> Result<u64, TrialError> {
     let description = samples::description(alloc, samples::specifier(alloc)?.into_attributes())?;
     refuse_all(alloc);
     let answer = description.with_creator(7);
@@ -138,7 +138,7 @@ pub fn add_creator(alloc: Global) -> Result<u64, Wrong> {
 }
 
 /// Writes an error into a text that has room for it.
-pub fn display(alloc: Global) -> Result<u64, Wrong> {
+pub fn display(alloc: Global) -> Result<u64, TrialError> {
     let error = EventOpenOrCreateError::EventOpenError(EventOpenError::OutOfMemory);
     let mut text = prepared(String::with_capacity(alloc, 200))?;
     refuse_all(alloc);
@@ -148,12 +148,12 @@ pub fn display(alloc: Global) -> Result<u64, Wrong> {
 }
 
 /// Events that node 1 creates.
-fn created(alloc: Global, table: &mut Table) -> Result<PortFactory<Local>, Wrong> {
+fn created(alloc: Global, table: &mut Table) -> Result<PortFactory<Local>, TrialError> {
     let node = Node::<Local>::new(1, Config::default());
     let builder = node.service_builder(samples::name(alloc, NAME)?).event();
     match builder.create(table, Ok(Time::default())) {
         Ok(factory) => Ok(factory),
-        Err(_) => Err(Wrong::Preparation),
+        Err(_) => Err(TrialError::Preparation),
     }
 }
 
@@ -162,7 +162,7 @@ fn close_factory(
     alloc: Global,
     factory: PortFactory<Local>,
     table: &mut Table,
-) -> Result<u64, Wrong> {
+) -> Result<u64, TrialError> {
     refuse_all(alloc);
     let is_closed = match factory.close(table) {
         Ok(()) => true,
@@ -183,7 +183,7 @@ fn read_factory(
     hash: ServiceHash,
     factory: PortFactory<Local>,
     table: &Table,
-) -> Result<u64, Wrong> {
+) -> Result<u64, TrialError> {
     refuse_all(alloc);
     let is_reported = factory.name().as_str() == NAME
         && factory.service_hash() == &hash
@@ -199,7 +199,7 @@ fn read_factory(
 }
 
 /// A factory that is closed.
-pub fn close(alloc: Global) -> Result<u64, Wrong> {
+pub fn close(alloc: Global) -> Result<u64, TrialError> {
     let mut table = Table::new(alloc);
     let came = match created(alloc, &mut table) {
         Ok(factory) => close_factory(alloc, factory, &mut table),
@@ -210,7 +210,7 @@ pub fn close(alloc: Global) -> Result<u64, Wrong> {
 }
 
 /// A factory that is read and abandoned, and what its table tells of it.
-pub fn read(alloc: Global) -> Result<u64, Wrong> {
+pub fn read(alloc: Global) -> Result<u64, TrialError> {
     let hash = samples::hash(alloc)?;
     let mut table = Table::new(alloc);
     let came = match created(alloc, &mut table) {

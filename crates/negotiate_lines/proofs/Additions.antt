@@ -8,30 +8,30 @@ use Rattle.iceoryx2_attribute.specs.Attributes.{Pair, pair_of}
 use Rattle.iceoryx2_attribute.specs.Requirements.{Requirements}
 use Rattle.iceoryx2_attribute.specs.declared.attribute.AttributeError.TheVariants as attribute_error
 use Rattle.negotiate_lines.specs.declared.leaf.Form.{Form}
-use Rattle.negotiate_lines.specs.declared.wrong.Flaw.{Flaw}
-use Rattle.negotiate_lines.specs.declared.wrong.Flaw.TheVariants as flaw
-use Rattle.negotiate_lines.specs.declared.wrong.Wrong.{Wrong}
-use Rattle.negotiate_lines.specs.declared.wrong.Wrong.TheVariants as wrong
+use Rattle.negotiate_lines.specs.declared.line_error.LineFailure.{LineFailure}
+use Rattle.negotiate_lines.specs.declared.line_error.LineFailure.TheVariants as flaw
+use Rattle.negotiate_lines.specs.declared.line_error.LineError.{LineError}
+use Rattle.negotiate_lines.specs.declared.line_error.LineError.TheVariants as wrong
 use Rattle.negotiate_lines.specs.Leaves.{IsLeaf}
 use Rattle.negotiate_lines.specs.CallTerms.{Arguments, Follows, LeafText, PairTexts, attribute, in_place, required_key}
 use Rattle.negotiate_lines.specs.Wrongs.{IsBroken, IsKeyAnswer, IsPairAnswer, Judges, WrongStep}
 use Rattle.negotiate_lines.proofs.OneLeaf.{one_leaf}
 
 -- where a leaf is broken what it is a part of is wrong
-pub broken : {B : Type 0} (form : Form) (leaf : List ℕ) (Q : B → Type 0) (W : Wrong → Type 0) (e : Flaw) (r : Result B Flaw)
+pub broken : {B : Type 0} (form : Form) (leaf : List ℕ) (Q : B → Type 0) (W : LineError → Type 0) (e : LineFailure) (r : Result B LineFailure)
     → IsErrAnd r (λ f. f ≡ e) → Judges (IsLeaf form leaf) (IsBroken leaf) (Err e)
     → ((LeafText form leaf → ⊥) → (b : B) → Q b → ⊥)
     → ((LeafText form leaf → ⊥) → (t : Bor (List ℕ)) → t.now ≡ leaf → W (wrong.BrokenLeaf t)) → Judges Q W r
 broken form leaf Q W e (Ok b) is judged none also = absurd is
 broken {B = B} form leaf Q W (flaw.Wrong w) (Err f) is judged none also =
     let no_text : LeafText form leaf → ⊥ = λ text. judged.0 text.0 text.1 in
-    subst (λ (x : Flaw). Judges {A = B} Q W (Err x)) (sym is)
+    subst (λ (x : LineFailure). Judges {A = B} Q W (Err x)) (sym is)
     (none no_text, subst W (sym judged.1.2) (also no_text judged.1.0 judged.1.1))
-broken {B = B} form leaf Q W flaw.OutOfMemory (Err f) is judged none also = subst (λ (x : Flaw). Judges {A = B} Q W (Err x)) (sym is) tt
+broken {B = B} form leaf Q W flaw.OutOfMemory (Err f) is judged none also = subst (λ (x : LineFailure). Judges {A = B} Q W (Err x)) (sym is) tt
 
 -- the same where what it is a part of stays in its place
-pub broken_in_place : {B : Type 0} (form : Form) (leaf : List ℕ) (Q : B → Type 0) (W : Wrong → Type 0) (e : Flaw) (b : B)
-    (told : Result (Unit {0}) Flaw) → IsErrAnd told (λ f. f ≡ e) → Judges (IsLeaf form leaf) (IsBroken leaf) (Err e)
+pub broken_in_place : {B : Type 0} (form : Form) (leaf : List ℕ) (Q : B → Type 0) (W : LineError → Type 0) (e : LineFailure) (b : B)
+    (told : Result (Unit {0}) LineFailure) → IsErrAnd told (λ f. f ≡ e) → Judges (IsLeaf form leaf) (IsBroken leaf) (Err e)
     → ((LeafText form leaf → ⊥) → (b : B) → Q b → ⊥)
     → ((LeafText form leaf → ⊥) → (t : Bor (List ℕ)) → t.now ≡ leaf → W (wrong.BrokenLeaf t)) → Judges Q W (in_place told b)
 broken_in_place form leaf Q W e b (Ok done) is judged none also = absurd is
@@ -56,11 +56,11 @@ module _ {S : Type 0} (form : Form) (old : Arguments S) (key value : List ℕ) (
     now = old.now;
   }
 
-  abbrev PairJudged : Result (Unit {0}) Flaw → List Pair → Type 0
+  abbrev PairJudged : Result (Unit {0}) LineFailure → List Pair → Type 0
   PairJudged told pairs =
       Judges (Follows form old (attribute key value)) (WrongStep form old (attribute key value)) (in_place told (with_pairs pairs))
 
-  pub pair_judged : (answer : Answer) (pairs : List Pair) (told : Result (Unit {0}) Flaw)
+  pub pair_judged : (answer : Answer) (pairs : List Pair) (told : Result (Unit {0}) LineFailure)
       → AddsPair old.requirements.pairs (pair_of p.key_text p.value_text) answer pairs → IsPairAnswer answer key value told
       → PairJudged told pairs
   pair_judged (Ok added) pairs told adds is = subst (λ t. PairJudged t pairs) (sym is) ((p, adds), refl)
@@ -83,7 +83,7 @@ module _ {S : Type 0} (form : Form) (old : Arguments S) (key value : List ℕ) (
       )
 
   -- the same where it is known that the keys stay
-  pub pair_judged_with : (answer : Answer) (requirements : Requirements) (told : Result (Unit {0}) Flaw)
+  pub pair_judged_with : (answer : Answer) (requirements : Requirements) (told : Result (Unit {0}) LineFailure)
       → AddsPair old.requirements.pairs (pair_of p.key_text p.value_text) answer requirements.pairs
       → requirements.keys ≡ old.requirements.keys → IsPairAnswer answer key value told
       → Judges (Follows form old (attribute key value)) (WrongStep form old (attribute key value))
@@ -107,11 +107,11 @@ module _ {S : Type 0} (form : Form) (old : Arguments S) (key : List ℕ) (text :
     now = old.now;
   }
 
-  abbrev KeyJudged : Result (Unit {0}) Flaw → List (List ℕ) → Type 0
+  abbrev KeyJudged : Result (Unit {0}) LineFailure → List (List ℕ) → Type 0
   KeyJudged told keys =
       Judges (Follows form old (required_key key)) (WrongStep form old (required_key key)) (in_place told (with_keys keys))
 
-  pub key_judged : (answer : Answer) (keys : List (List ℕ)) (told : Result (Unit {0}) Flaw)
+  pub key_judged : (answer : Answer) (keys : List (List ℕ)) (told : Result (Unit {0}) LineFailure)
       → AddsKey old.requirements.keys text.0 answer keys → IsKeyAnswer answer key told → KeyJudged told keys
   key_judged (Ok added) keys told adds is = subst (λ t. KeyJudged t keys) (sym is) ((text, adds), refl)
   key_judged (Err attribute_error.OutOfMemory) keys told adds is = subst (λ t. KeyJudged t keys) (sym is) tt
@@ -129,7 +129,7 @@ module _ {S : Type 0} (form : Form) (old : Arguments S) (key : List ℕ) (text :
       )
 
   -- the same where it is known that the pairs stay
-  pub key_judged_with : (answer : Answer) (requirements : Requirements) (told : Result (Unit {0}) Flaw)
+  pub key_judged_with : (answer : Answer) (requirements : Requirements) (told : Result (Unit {0}) LineFailure)
       → AddsKey old.requirements.keys text.0 answer requirements.keys
       → requirements.pairs ≡ old.requirements.pairs → IsKeyAnswer answer key told
       → Judges (Follows form old (required_key key)) (WrongStep form old (required_key key))

@@ -5,7 +5,7 @@ use Rattle.std.specs.Str.{IsUtf8}
 use Rattle.negotiate_lines.specs.declared.leaf.Form.{Form}
 use Rattle.negotiate_lines.specs.declared.line.Line.{Line}
 use Rattle.negotiate_lines.specs.declared.line.Line.TheVariants as line
-use Rattle.negotiate_lines.specs.declared.wrong.Wrong.TheVariants as wrong
+use Rattle.negotiate_lines.specs.declared.line_error.LineError.TheVariants as wrong
 use Rattle.negotiate_lines.specs.Terms.{terms_of}
 use Rattle.negotiate_lines.specs.Lines.{AreLine, IsLineIn}
 use Rattle.negotiate_lines.specs.Wrongs.{not_utf8, in_terms}

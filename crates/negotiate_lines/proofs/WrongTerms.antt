@@ -9,8 +9,8 @@ use Rattle.negotiate_lines.specs.declared.leaf.Form.{Form}
 use Rattle.negotiate_lines.specs.declared.call_term.CallTerm.{CallTerm}
 use Rattle.negotiate_lines.specs.declared.term.TermError.{TermError}
 use Rattle.negotiate_lines.specs.declared.term.TermError.TheVariants as error
-use Rattle.negotiate_lines.specs.declared.wrong.Flaw.{Flaw}
-use Rattle.negotiate_lines.specs.declared.wrong.Flaw.TheVariants as flaw
+use Rattle.negotiate_lines.specs.declared.line_error.LineFailure.{LineFailure}
+use Rattle.negotiate_lines.specs.declared.line_error.LineFailure.TheVariants as flaw
 use Rattle.negotiate_lines.specs.declared.vocabulary.Kind.{Kind}
 use Rattle.negotiate_lines.specs.Terms.{AreAround}
 use Rattle.negotiate_lines.specs.Values.{IsClockTerm}
@@ -22,7 +22,7 @@ use Rattle.negotiate_lines.proofs.OneInstruction.{one_instruction}
 
 module _ {S : Type 0} (form : Form) (v : Vocabulary S) (h : How) (old : Arguments S) (term : List ℕ) where
   -- what a term means is followed, or it is wrong
-  pub follows_judged : (instruction : Instruction S) → IsInstructionOf form v (admitted_of v.has_clock h) term instruction → (r : Result (Arguments S) Flaw)
+  pub follows_judged : (instruction : Instruction S) → IsInstructionOf form v (admitted_of v.has_clock h) term instruction → (r : Result (Arguments S) LineFailure)
       → Judges (Follows form old instruction) (WrongStep form old instruction) r → Judges (TakesTerm form v (admitted_of v.has_clock h) old term) (WrongTerm form v h old term) r
   follows_judged instruction is_such (Ok new) follows = (instruction, is_such, follows)
   follows_judged instruction is_such (Err (flaw.Wrong w)) judged = (

@@ -4,8 +4,8 @@ use Rattle.std.specs.Borrow.{Bor}
 use Rattle.negotiate_lines.specs.declared.vocabulary.Admitted.{Admitted}
 use Rattle.negotiate_lines.specs.declared.vocabulary.Kind.{Kind}
 use Rattle.negotiate_lines.specs.declared.vocabulary.Kind.TheVariants as kind
-use Rattle.negotiate_lines.specs.declared.wrong.Wrong.{Wrong}
-use Rattle.negotiate_lines.specs.declared.wrong.Wrong.TheVariants as wrong
+use Rattle.negotiate_lines.specs.declared.line_error.LineError.{LineError}
+use Rattle.negotiate_lines.specs.declared.line_error.LineError.TheVariants as wrong
 use Rattle.negotiate_lines.specs.Escapes.{shown}
 use Rattle.negotiate_lines.specs.Nearest.{Suggests}
 use Rattle.negotiate_lines.specs.Wrongs.{command_words}
@@ -20,7 +20,7 @@ kind_text kind.Alignment = codes "a power of two below 2^64"
 kind_text kind.Type = codes "<fixed or dynamic>,<name>,<size>,<alignment>"
 
 -- the text of each, without a hint; each word of the line is escaped and cut
-abbrev pub flaw_text : Wrong → List ℕ
+abbrev pub flaw_text : LineError → List ℕ
 flaw_text wrong.NotUtf8 = codes "not UTF-8"
 flaw_text (wrong.NoSuchCommand term) = shown term.now ++ codes ": no such command"
 flaw_text (wrong.BehindList term) = shown term.now ++ codes ": nothing stands behind list"
@@ -73,7 +73,7 @@ abbrev pub Offers : (term : List ℕ) (words : List (List ℕ)) (told hint : Lis
 Offers term words told hint = (nearest : Option (List ℕ)) × Suggests term words nearest × (hint ≡ hint_of nearest told)
 
 -- what is hinted at
-abbrev pub IsHint : Wrong → List ℕ → Type 0
+abbrev pub IsHint : LineError → List ℕ → Type 0
 IsHint (wrong.NoSuchCommand term) hint =
     Offers term.now command_words (codes "; it is list, close, event, pubsub or rr") hint
 IsHint (wrong.NoSuchCall term) hint =
@@ -83,5 +83,5 @@ IsHint (wrong.NoSuchSetting name pattern settings admitted) hint =
 IsHint _ hint = hint ≡ []
 
 -- The text is what is wrong, and a hint behind it.
-abbrev pub IsWrongText : Wrong → List ℕ → Type 0
+abbrev pub IsWrongText : LineError → List ℕ → Type 0
 IsWrongText w text = (hint : List ℕ) × IsHint w hint × (text ≡ flaw_text w ++ hint)

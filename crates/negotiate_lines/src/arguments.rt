@@ -14,9 +14,9 @@ ghost use Rattle.negotiate_lines.specs.Wrongs.{WrongArguments, WrongStep, WrongT
 use crate::call_term::{CallTerm, call_term};
 use crate::leaf::{Form, text_of_leaf};
 use crate::line::admitted;
+use crate::line_error::{LineError, LineFailure};
 use crate::term::{TermError, next_term};
 use crate::vocabulary::HasVocabulary;
-use crate::wrong::{Flaw, Wrong};
 use crate::wrong_terms::wrong_term;
 use iceoryx2_attribute::attribute::AttributeError::{self, KeyLength, TooMany, ValueLength};
 use iceoryx2_attribute::attribute::AttributeVerifier;
@@ -79,14 +79,14 @@ impl<S: Drop> CallArguments<S> {
         alloc: Global,
         form: Form,
         instruction: CallTerm<'a, S>,
-    ) -> Result<(), Flaw<'a>>
+    ) -> Result<(), LineFailure<'a>>
         ensures { Judges (Follows form self.old (instruction_of instruction.entry))
             (WrongStep form self.old (instruction_of instruction.entry)) (in_place result self.new) }
     {
         match instruction {
             CallTerm::Setting(setting) => match self.settings.push(setting) {
                 Ok(()) => Ok(()),
-                Err(_) => Err(Flaw::OutOfMemory),
+                Err(_) => Err(LineFailure::OutOfMemory),
             },
             CallTerm::Now(now) => {
                 self.now = now;
@@ -104,7 +104,7 @@ impl<S: Drop> CallArguments<S> {
         form: Form,
         key: &'a str,
         value: &'a str,
-    ) -> Result<(), Flaw<'a>>
+    ) -> Result<(), LineFailure<'a>>
         ensures { Judges (Follows form self.old (attribute key.now value.now))
             (WrongStep form self.old (attribute key.now value.now)) (in_place result self.new) }
     {
@@ -115,7 +115,12 @@ impl<S: Drop> CallArguments<S> {
     }
 
     /// The same of a key that is required, of which this is the leaf.
-    fn judge_key<'a>(&mut self, alloc: Global, form: Form, key: &'a str) -> Result<(), Flaw<'a>>
+    fn judge_key<'a>(
+        &mut self,
+        alloc: Global,
+        form: Form,
+        key: &'a str,
+    ) -> Result<(), LineFailure<'a>>
         ensures { Judges (Follows form self.old (required_key key.now)) (WrongStep form self.old (required_key key.now))
             (in_place result self.new) }
     {
@@ -130,27 +135,27 @@ fn pair_answer<'a>(
     answer: Result<(), AttributeError>,
     key: &'a str,
     value: &'a str,
-) -> Result<(), Flaw<'a>>
+) -> Result<(), LineFailure<'a>>
     ensures { IsPairAnswer answer key.now value.now result }
 {
     match answer {
         Ok(()) => Ok(()),
-        Err(AttributeError::OutOfMemory) => Err(Flaw::OutOfMemory),
-        Err(KeyLength) => Err(Flaw::Wrong(Wrong::KeyLength(key))),
-        Err(ValueLength) => Err(Flaw::Wrong(Wrong::ValueLength(value))),
-        Err(TooMany) => Err(Flaw::Wrong(Wrong::TooManyPairs(key, value))),
+        Err(AttributeError::OutOfMemory) => Err(LineFailure::OutOfMemory),
+        Err(KeyLength) => Err(LineFailure::Wrong(LineError::KeyLength(key))),
+        Err(ValueLength) => Err(LineFailure::Wrong(LineError::ValueLength(value))),
+        Err(TooMany) => Err(LineFailure::Wrong(LineError::TooManyPairs(key, value))),
     }
 }
 
 /// What is told where a key of this leaf is put among others.
-fn key_answer<'a>(answer: Result<(), AttributeError>, key: &'a str) -> Result<(), Flaw<'a>>
+fn key_answer<'a>(answer: Result<(), AttributeError>, key: &'a str) -> Result<(), LineFailure<'a>>
     ensures { IsKeyAnswer answer key.now result }
 {
     match answer {
         Ok(()) => Ok(()),
-        Err(AttributeError::OutOfMemory) => Err(Flaw::OutOfMemory),
-        Err(TooMany) => Err(Flaw::Wrong(Wrong::TooManyKeys(key))),
-        Err(_) => Err(Flaw::Wrong(Wrong::KeyLength(key))),
+        Err(AttributeError::OutOfMemory) => Err(LineFailure::OutOfMemory),
+        Err(TooMany) => Err(LineFailure::Wrong(LineError::TooManyKeys(key))),
+        Err(_) => Err(LineFailure::Wrong(LineError::KeyLength(key))),
     }
 }
 
@@ -159,14 +164,14 @@ pub(crate) fn judge_leaf<'a>(
     alloc: Global,
     form: Form,
     leaf: &'a str,
-) -> Result<CowStr<'a>, Flaw<'a>>
+) -> Result<CowStr<'a>, LineFailure<'a>>
     ensures { Judges (IsLeaf form leaf.now) (IsBroken leaf.now)
         (result_map_both (λ text. cow_str_bytes text) (λ e. e) result) }
 {
     match text_of_leaf(alloc, form, leaf) {
         Ok(text) => Ok(text),
-        Err(TermError::Malformed) => Err(Flaw::Wrong(Wrong::BrokenLeaf(leaf))),
-        Err(TermError::OutOfMemory) => Err(Flaw::OutOfMemory),
+        Err(TermError::Malformed) => Err(LineFailure::Wrong(LineError::BrokenLeaf(leaf))),
+        Err(TermError::OutOfMemory) => Err(LineFailure::OutOfMemory),
     }
 }
 
@@ -177,7 +182,7 @@ pub(crate) fn judge_arguments<'a, V: HasVocabulary>(
     form: Form,
     how: How,
     text: &'a str,
-) -> Result<CallArguments<V::Setter>, Flaw<'a>>
+) -> Result<CallArguments<V::Setter>, LineFailure<'a>>
     ensures { Judges
         (TakesTerms form V.vocabulary (admitted_of V.vocabulary.has_clock how) no_arguments (terms_of text.now))
         (WrongArguments form V.vocabulary how (terms_of text.now)) result }
@@ -198,13 +203,13 @@ fn judge_term<'a, V: HasVocabulary>(
     how: How,
     arguments: &mut CallArguments<V::Setter>,
     term: &'a str,
-) -> Result<(), Flaw<'a>>
+) -> Result<(), LineFailure<'a>>
     ensures { Judges (TakesTerm form V.vocabulary (admitted_of V.vocabulary.has_clock how) arguments.old term.now)
         (WrongTerm form V.vocabulary how arguments.old term.now) (in_place result arguments.new) }
 {
     match call_term::<V>(alloc, form, admitted::<V>(how), term) {
         Ok(instruction) => arguments.judge(alloc, form, instruction),
-        Err(TermError::OutOfMemory) => Err(Flaw::OutOfMemory),
-        Err(TermError::Malformed) => Err(Flaw::Wrong(wrong_term::<V>(form, how, term))),
+        Err(TermError::OutOfMemory) => Err(LineFailure::OutOfMemory),
+        Err(TermError::Malformed) => Err(LineFailure::Wrong(wrong_term::<V>(form, how, term))),
     }
 }

@@ -13,10 +13,10 @@ ghost use Rattle.negotiate_lines.specs.Wrongs.{WrongSlot, WrongTerms};
 
 use crate::arguments::{CallArguments, judge_arguments, judge_leaf};
 use crate::leaf::Form;
+use crate::line_error::{LineError, LineFailure};
 use crate::setting_terms::{EventTerms, PublishSubscribeTerms, RequestResponseTerms};
 use crate::term::{TermError, next_term, number};
 use crate::vocabulary::{Admitted, HasVocabulary};
-use crate::wrong::{Flaw, Wrong};
 use iceoryx2_builder::command::{Call, Command, How, SLOTS, Settings};
 use iceoryx2_description::description::{ServiceName, ServiceNameError};
 use std::alloc::{AllocError, Global};
@@ -29,7 +29,7 @@ pub enum Line<'a> {
     /// It is a command.
     Command(Command),
     /// It is neither, and this is the first thing that is wrong, from left to right.
-    NotACommand(Wrong<'a>),
+    NotACommand(LineError<'a>),
 }
 
 /// The line without its end: one `\n`, and one `\r` before that.
@@ -62,7 +62,7 @@ pub fn parse_in<'a>(alloc: Global, form: Form, line: &'a [u8]) -> Result<Line<'a
 {
     match std::str::from_utf8(line) {
         Ok(text) => parse_text(alloc, form, text),
-        Err(_) => Ok(Line::NotACommand(Wrong::NotUtf8)),
+        Err(_) => Ok(Line::NotACommand(LineError::NotUtf8)),
     }
 }
 
@@ -75,8 +75,8 @@ fn parse_text<'a>(alloc: Global, form: Form, text: &'a str) -> Result<Line<'a>, 
     };
     match judge(alloc, form, first, others) {
         Ok(command) => Ok(Line::Command(command)),
-        Err(Flaw::Wrong(wrong)) => Ok(Line::NotACommand(wrong)),
-        Err(Flaw::OutOfMemory) => Err(AllocError),
+        Err(LineFailure::Wrong(wrong)) => Ok(Line::NotACommand(wrong)),
+        Err(LineFailure::OutOfMemory) => Err(AllocError),
     }
 }
 
@@ -86,7 +86,7 @@ fn judge<'a>(
     form: Form,
     first: &'a str,
     others: &'a str,
-) -> Result<Command, Flaw<'a>>
+) -> Result<Command, LineFailure<'a>>
     ensures { Judges (IsCommandOf form (first.now ∷ terms_of others.now))
         (WrongTerms form (first.now ∷ terms_of others.now)) result }
 {
@@ -102,45 +102,45 @@ fn judge<'a>(
             let call = judge_call::<RequestResponseTerms>(alloc, form, others)?;
             Ok(call.into_command(Settings::RequestResponse))
         }
-        _ => Err(Flaw::Wrong(Wrong::NoSuchCommand(first))),
+        _ => Err(LineFailure::Wrong(LineError::NoSuchCommand(first))),
     }
 }
 
 /// What the term `list` means before others.
-fn judge_list<'a>(form: Form, others: &'a str) -> Result<Command, Flaw<'a>>
+fn judge_list<'a>(form: Form, others: &'a str) -> Result<Command, LineFailure<'a>>
     ensures { Judges (IsCommandOf form (codes "list" ∷ terms_of others.now))
         (WrongTerms form (codes "list" ∷ terms_of others.now)) result }
 {
     match next_term(others) {
         None => Ok(Command::List),
-        Some((term, _)) => Err(Flaw::Wrong(Wrong::BehindList(term))),
+        Some((term, _)) => Err(LineFailure::Wrong(LineError::BehindList(term))),
     }
 }
 
 /// What the term `close` means before others.
-fn judge_close<'a>(form: Form, others: &'a str) -> Result<Command, Flaw<'a>>
+fn judge_close<'a>(form: Form, others: &'a str) -> Result<Command, LineFailure<'a>>
     ensures { Judges (IsCommandOf form (codes "close" ∷ terms_of others.now))
         (WrongTerms form (codes "close" ∷ terms_of others.now)) result }
 {
     let (slot, others) = slot_in(others)?;
     match next_term(others) {
         None => Ok(Command::Close { slot }),
-        Some((term, _)) => Err(Flaw::Wrong(Wrong::BehindSlot(term))),
+        Some((term, _)) => Err(LineFailure::Wrong(LineError::BehindSlot(term))),
     }
 }
 
 /// The slot by which a text begins, and the text behind it.
-fn slot_in<'a>(text: &'a str) -> Result<(usize, &'a str), Flaw<'a>>
+fn slot_in<'a>(text: &'a str) -> Result<(usize, &'a str), LineFailure<'a>>
     ensures { JudgesFirst (IsNumber slot_count) WrongSlot (terms_of text.now) result }
 {
     let Some((term, others)) = next_term(text) else {
-        return Err(Flaw::Wrong(Wrong::NoSlot));
+        return Err(LineFailure::Wrong(LineError::NoSlot));
     };
     match number(term) {
-        Err(_) => Err(Flaw::Wrong(Wrong::NoSlotNumber(term))),
+        Err(_) => Err(LineFailure::Wrong(LineError::NoSlotNumber(term))),
         Ok(number) => {
             if number >= SLOTS as u64 {
-                return Err(Flaw::Wrong(Wrong::SlotTooGreat(term)));
+                return Err(LineFailure::Wrong(LineError::SlotTooGreat(term)));
             }
             Ok((number as usize, others))
         }
@@ -148,15 +148,15 @@ fn slot_in<'a>(text: &'a str) -> Result<(usize, &'a str), Flaw<'a>>
 }
 
 /// The call by which a text begins, and the text behind it.
-fn how_in<'a>(text: &'a str) -> Result<(How, &'a str), Flaw<'a>>
+fn how_in<'a>(text: &'a str) -> Result<(How, &'a str), LineFailure<'a>>
     ensures { JudgesFirst NamesCall WrongHow (terms_of text.now) result }
 {
     let Some((term, others)) = next_term(text) else {
-        return Err(Flaw::Wrong(Wrong::NoCall));
+        return Err(LineFailure::Wrong(LineError::NoCall));
     };
     match how_of(term) {
         Ok(how) => Ok((how, others)),
-        Err(_) => Err(Flaw::Wrong(Wrong::NoSuchCall(term))),
+        Err(_) => Err(LineFailure::Wrong(LineError::NoSuchCall(term))),
     }
 }
 
@@ -172,15 +172,15 @@ fn how_of(term: &str) -> Result<How, TermError>
 }
 
 /// The node by which a text begins, and the text behind it.
-fn node_in<'a>(text: &'a str) -> Result<(u64, &'a str), Flaw<'a>>
+fn node_in<'a>(text: &'a str) -> Result<(u64, &'a str), LineFailure<'a>>
     ensures { JudgesFirst IsNatural WrongNode (terms_of text.now) result }
 {
     let Some((term, others)) = next_term(text) else {
-        return Err(Flaw::Wrong(Wrong::NoNode));
+        return Err(LineFailure::Wrong(LineError::NoNode));
     };
     match number(term) {
         Ok(node) => Ok((node, others)),
-        Err(_) => Err(Flaw::Wrong(Wrong::NoNodeNumber(term))),
+        Err(_) => Err(LineFailure::Wrong(LineError::NoNodeNumber(term))),
     }
 }
 
@@ -189,7 +189,7 @@ fn judge_call<'a, V: HasVocabulary>(
     alloc: Global,
     form: Form,
     others: &'a str,
-) -> Result<NamedCall<V::Setter>, Flaw<'a>>
+) -> Result<NamedCall<V::Setter>, LineFailure<'a>>
     ensures { Judges (IsNamedCallOf form V.vocabulary (V.vocabulary.pattern ∷ terms_of others.now))
         (WrongCall form V.vocabulary (terms_of others.now)) result }
 {
@@ -197,13 +197,15 @@ fn judge_call<'a, V: HasVocabulary>(
     let (node, others) = node_in(others)?;
     let (slot, others) = slot_in(others)?;
     let Some((term, others)) = next_term(others) else {
-        return Err(Flaw::Wrong(Wrong::NoName));
+        return Err(LineFailure::Wrong(LineError::NoName));
     };
     let text = judge_leaf(alloc, form, term)?;
     let name = match ServiceName::new(alloc, &text) {
         Ok(name) => name,
-        Err(ServiceNameError::Length) => return Err(Flaw::Wrong(Wrong::NameLength(term))),
-        Err(ServiceNameError::OutOfMemory) => return Err(Flaw::OutOfMemory),
+        Err(ServiceNameError::Length) => return Err(LineFailure::Wrong(LineError::NameLength(
+            term,
+        ))),
+        Err(ServiceNameError::OutOfMemory) => return Err(LineFailure::OutOfMemory),
     };
     let arguments = judge_arguments::<V>(alloc, form, how, others)?;
     Ok(NamedCall {

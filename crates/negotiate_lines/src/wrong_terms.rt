@@ -8,20 +8,20 @@ ghost use Rattle.negotiate_lines.specs.Wrongs.{WrongText, WrongValue};
 
 use crate::leaf::Form;
 use crate::line::admitted;
+use crate::line_error::LineError;
 use crate::term::around;
 use crate::vocabulary::{HasVocabulary, Kind};
-use crate::wrong::Wrong;
 use iceoryx2_builder::command::How;
 
 /// What is wrong with a term that means nothing.
-pub(crate) fn wrong_term<'a, V: HasVocabulary>(form: Form, how: How, term: &'a str) -> Wrong<'a>
+pub(crate) fn wrong_term<'a, V: HasVocabulary>(form: Form, how: How, term: &'a str) -> LineError<'a>
     requires { (instruction : Instruction V.Setter)
         → IsInstructionOf form V.vocabulary (admitted_of V.vocabulary.has_clock how) term.now instruction → ⊥ }
     ensures { WrongText form V.vocabulary how term.now result }
 {
     match around(term, '=') {
         Some((name, value)) => wrong_value::<V>(form, how, name, value),
-        None => Wrong::NoEqualsSign(term),
+        None => LineError::NoEqualsSign(term),
     }
 }
 
@@ -31,18 +31,18 @@ fn wrong_value<'a, V: HasVocabulary>(
     how: How,
     name: &'a str,
     value: &'a str,
-) -> Wrong<'a>
+) -> LineError<'a>
     requires { (instruction : Instruction V.Setter)
         → IsValueOf form V.vocabulary.rows (admitted_of V.vocabulary.has_clock how) name.now value.now instruction → ⊥ }
     ensures { WrongValue form V.vocabulary how name.now value.now result }
 {
     match name {
         "now" => wrong_now::<V>(form, how, value),
-        "attribute" => Wrong::NoColon(value),
-        "require_key" => Wrong::KeyWithCreate,
+        "attribute" => LineError::NoColon(value),
+        "require_key" => LineError::KeyWithCreate,
         _ => match kind_in(V::settings(), name) {
-            Some(kind) => Wrong::Value(name, value, kind),
-            None => Wrong::NoSuchSetting {
+            Some(kind) => LineError::Value(name, value, kind),
+            None => LineError::NoSuchSetting {
                 name,
                 pattern: V::pattern(),
                 settings: V::settings(),
@@ -53,18 +53,18 @@ fn wrong_value<'a, V: HasVocabulary>(
 }
 
 /// What is wrong with `now`, where its value means nothing with such a call.
-fn wrong_now<'a, V: HasVocabulary>(form: Form, how: How, value: &'a str) -> Wrong<'a>
+fn wrong_now<'a, V: HasVocabulary>(form: Form, how: How, value: &'a str) -> LineError<'a>
     requires { (instruction : Instruction V.Setter) → IsValueOf form V.vocabulary.rows
         (admitted_of V.vocabulary.has_clock how) (codes "now") value.now instruction → ⊥ }
     ensures { WrongValue form V.vocabulary how (codes "now") value.now result }
 {
     if !V::has_clock() {
-        return Wrong::NowOfPattern(V::pattern());
+        return LineError::NowOfPattern(V::pattern());
     }
     match how {
-        How::Open => Wrong::NowWithOpen,
-        How::Create => Wrong::NoTime(value),
-        How::OpenOrCreate => Wrong::NoTime(value),
+        How::Open => LineError::NowWithOpen,
+        How::Create => LineError::NoTime(value),
+        How::OpenOrCreate => LineError::NoTime(value),
     }
 }
 

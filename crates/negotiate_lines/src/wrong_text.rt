@@ -8,16 +8,16 @@ ghost use Rattle.negotiate_lines.specs.WrongTexts.{setting_words};
 ghost use Rattle.negotiate_lines.specs.Wrongs.{command_words};
 
 use crate::escape::escape_word;
+use crate::line_error::LineError;
 use crate::nearest::{nearer, nearer_if};
 use crate::vocabulary::{Admitted, Kind};
-use crate::wrong::Wrong;
 use std::alloc::{AllocError, Global};
 
 /// What is wrong with a line, in words. A word of the line is escaped as `escape` does, and of one with more than 64
 /// characters the first 64 are told, and `..`. Where a word that could stand there is near, it is hinted at.
 ///
 /// `AllocError` where there is no memory for the text, or for finding what may have been meant.
-pub fn wrong_text(alloc: Global, wrong: Wrong<'_>) -> Result<String, AllocError>
+pub fn wrong_text(alloc: Global, wrong: LineError<'_>) -> Result<String, AllocError>
     ensures { IfOk result (λ text. IsWrongText wrong.entry (string_bytes text)) }
 {
     let hint = hint_at(alloc, wrong)?;
@@ -28,14 +28,14 @@ pub fn wrong_text(alloc: Global, wrong: Wrong<'_>) -> Result<String, AllocError>
 }
 
 /// Writes what is wrong, without a hint.
-fn write_flaw(wrong: Wrong<'_>, text: &mut String) -> Result<(), AllocError>
+fn write_flaw(wrong: LineError<'_>, text: &mut String) -> Result<(), AllocError>
     ensures { OnOk result (string_bytes text.new ≡ string_bytes text.old ++ flaw_text wrong.entry) }
 {
     match wrong {
-        Wrong::NotUtf8 => text.push_str("not UTF-8"),
-        Wrong::NoSuchCommand(term) => write_of("", term, ": no such command", text),
-        Wrong::BehindList(term) => write_of("", term, ": nothing stands behind list", text),
-        Wrong::BehindSlot(term) => {
+        LineError::NotUtf8 => text.push_str("not UTF-8"),
+        LineError::NoSuchCommand(term) => write_of("", term, ": no such command", text),
+        LineError::BehindList(term) => write_of("", term, ": nothing stands behind list", text),
+        LineError::BehindSlot(term) => {
             write_of(
                 "",
                 term,
@@ -43,23 +43,25 @@ fn write_flaw(wrong: Wrong<'_>, text: &mut String) -> Result<(), AllocError>
                 text,
             )
         }
-        Wrong::NoCall => text.push_str("no call; it is create, open or open_or_create"),
-        Wrong::NoSuchCall(term) => write_of("", term, ": no such call", text),
-        Wrong::NoNode => text.push_str("no node; it is a number below 2^64"),
-        Wrong::NoNodeNumber(term) => write_of("node ", term, ": a number below 2^64", text),
-        Wrong::NoSlot => text.push_str("no slot; it is a number from 0 to 63"),
-        Wrong::NoSlotNumber(term) => write_of("slot ", term, ": a number from 0 to 63", text),
-        Wrong::SlotTooGreat(term) => write_of("slot ", term, ": at most 63", text),
-        Wrong::NoName => text.push_str("no name"),
-        Wrong::BrokenLeaf(term) => write_of(
+        LineError::NoCall => text.push_str("no call; it is create, open or open_or_create"),
+        LineError::NoSuchCall(term) => write_of("", term, ": no such call", text),
+        LineError::NoNode => text.push_str("no node; it is a number below 2^64"),
+        LineError::NoNodeNumber(term) => write_of("node ", term, ": a number below 2^64", text),
+        LineError::NoSlot => text.push_str("no slot; it is a number from 0 to 63"),
+        LineError::NoSlotNumber(term) => write_of("slot ", term, ": a number from 0 to 63", text),
+        LineError::SlotTooGreat(term) => write_of("slot ", term, ": at most 63", text),
+        LineError::NoName => text.push_str("no name"),
+        LineError::BrokenLeaf(term) => write_of(
             "",
             term,
             ": a % stands before two digits of a byte of UTF-8",
             text,
         ),
-        Wrong::NameLength(term) => write_of("name ", term, ": 1 to 255 bytes", text),
-        Wrong::NoEqualsSign(term) => { write_of("", term, ": no =; it is <setting>=<value>", text) }
-        Wrong::NoSuchSetting {
+        LineError::NameLength(term) => write_of("name ", term, ": 1 to 255 bytes", text),
+        LineError::NoEqualsSign(term) => {
+            write_of("", term, ": no =; it is <setting>=<value>", text)
+        }
+        LineError::NoSuchSetting {
             name,
             pattern,
             settings: _,
@@ -68,34 +70,34 @@ fn write_flaw(wrong: Wrong<'_>, text: &mut String) -> Result<(), AllocError>
             write_of("", name, ": no such setting of ", text)?;
             text.push_str(pattern)
         }
-        Wrong::Value(name, value, kind) => {
+        LineError::Value(name, value, kind) => {
             write_of("", name, "=", text)?;
             write_of("", value, ": ", text)?;
             write_of("", name, " is ", text)?;
             text.push_str(kind.text())
         }
-        Wrong::NoTime(value) => write_of(
+        LineError::NoTime(value) => write_of(
             "now=",
             value,
             ": now is <seconds>,<nanoseconds>, or fault",
             text,
         ),
-        Wrong::NowWithOpen => text.push_str("now: not with open"),
-        Wrong::NowOfPattern(pattern) => write!(text, "now: not with {pattern}"),
-        Wrong::KeyWithCreate => text.push_str("require_key: not with create"),
-        Wrong::NoColon(value) => write_of(
+        LineError::NowWithOpen => text.push_str("now: not with open"),
+        LineError::NowOfPattern(pattern) => write!(text, "now: not with {pattern}"),
+        LineError::KeyWithCreate => text.push_str("require_key: not with create"),
+        LineError::NoColon(value) => write_of(
             "attribute=",
             value,
             ": an attribute is <key>:<value>",
             text,
         ),
-        Wrong::KeyLength(key) => write_of("key ", key, ": 1 to 64 bytes", text),
-        Wrong::ValueLength(value) => write_of("value ", value, ": at most 256 bytes", text),
-        Wrong::TooManyPairs(key, value) => {
+        LineError::KeyLength(key) => write_of("key ", key, ": 1 to 64 bytes", text),
+        LineError::ValueLength(value) => write_of("value ", value, ": at most 256 bytes", text),
+        LineError::TooManyPairs(key, value) => {
             write_of("attribute=", key, ":", text)?;
             write_of("", value, ": at most 64 different pairs", text)
         }
-        Wrong::TooManyKeys(key) => {
+        LineError::TooManyKeys(key) => {
             write_of("require_key=", key, ": at most 64 different keys", text)
         }
     }
@@ -130,19 +132,19 @@ impl Kind {
 // ---- hints
 
 /// The hint behind what is wrong.
-fn hint_at(alloc: Global, wrong: Wrong<'_>) -> Result<String, AllocError>
+fn hint_at(alloc: Global, wrong: LineError<'_>) -> Result<String, AllocError>
     ensures { IfOk result (λ hint. IsHint wrong.entry (string_bytes hint)) }
 {
     match wrong {
-        Wrong::NoSuchCommand(term) => {
+        LineError::NoSuchCommand(term) => {
             let nearest = nearest_command(alloc, term)?;
             hint_text(alloc, nearest, "; it is list, close, event, pubsub or rr")
         }
-        Wrong::NoSuchCall(term) => {
+        LineError::NoSuchCall(term) => {
             let nearest = nearest_call(alloc, term)?;
             hint_text(alloc, nearest, "; it is create, open or open_or_create")
         }
-        Wrong::NoSuchSetting {
+        LineError::NoSuchSetting {
             name,
             pattern: _,
             settings,

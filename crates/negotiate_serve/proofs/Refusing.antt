@@ -4,7 +4,7 @@ use Rattle.std.specs.Prelude.{IfOk}
 use Rattle.std.proofs.lemmas.Bool.{true≢false}
 use Rattle.std.specs.declared.alloc.AllocError.{AllocError}
 use Rattle.negotiate_lines.specs.declared.line.Line.TheVariants as line
-use Rattle.negotiate_lines.specs.declared.wrong.Wrong.{Wrong}
+use Rattle.negotiate_lines.specs.declared.line_error.LineError.{LineError}
 use Rattle.negotiate_lines.specs.Lines.{IsLine}
 use Rattle.negotiate_serve.specs.declared.ending.WrongLines.{WrongLines}
 use Rattle.negotiate_serve.specs.declared.ending.WrongLines.TheVariants as wrong_lines
@@ -12,7 +12,7 @@ use Rattle.negotiate_serve.specs.Replies.{GrowsBy}
 use Rattle.negotiate_serve.specs.Served.{IsAnswerTo, IsAnswerToWrong, GrowsByLine}
 use Rattle.negotiate_serve.specs.Transcripts.{Answering, AnswersLineBy, AnswersEachBy, LinesBy, IsErrorReply, IsReplyToWrong, refused}
 
-module _ (k : ℕ) (x : Wrong) (old new : List ℕ) where
+module _ (k : ℕ) (x : LineError) (old new : List ℕ) where
   module _ {M : Type 0} (Answers : Answering M) (m : M) (bytes : List ℕ) (is : IsLine bytes (line.NotACommand x)) where
     answers_each : (end : List ℕ) (goes_on : Bool) → GrowsBy (λ output. (goes_on ≡ true) × IsReplyToWrong end x output) old new
         → GrowsByLine (AnswersEachBy end Answers) goes_on m k bytes old new m

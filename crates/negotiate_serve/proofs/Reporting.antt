@@ -3,7 +3,7 @@ use Rattle.std.proofs.Common.{◌≡◌, ℕ, List, Option}
 use Rattle.std.specs.Prelude.{Result, Ok, Err, IfOk}
 use Rattle.negotiate_lines.specs.declared.line.Line.{Line}
 use Rattle.negotiate_lines.specs.declared.line.Line.TheVariants as line
-use Rattle.negotiate_lines.specs.declared.wrong.Wrong.{Wrong}
+use Rattle.negotiate_lines.specs.declared.line_error.LineError.{LineError}
 use Rattle.negotiate_lines.specs.Lines.{IsLine}
 use Rattle.negotiate_lines.specs.WrongTexts.{IsWrongText}
 use Rattle.negotiate_serve.specs.declared.ending.ServeError.{ServeError}
@@ -12,7 +12,7 @@ use Rattle.negotiate_serve.specs.Outputs.{Writes}
 use Rattle.negotiate_serve.specs.Reports.{IsReport, IsReportOf, WritesReport, wrong_line}
 
 -- what is wrong, told so
-pub told_reported : {S E : Type 0} (bytes_of : S → List ℕ) (program : List ℕ) (number : ℕ) (w : Wrong) (told : List ℕ) → IsWrongText w told
+pub told_reported : {S E : Type 0} (bytes_of : S → List ℕ) (program : List ℕ) (number : ℕ) (w : LineError) (told : List ℕ) → IsWrongText w told
     → (r : Result S E) → IfOk r (λ text. bytes_of text ≡ wrong_line program number told) → IfOk r (λ text. IsReportOf program number (line.NotACommand w) (bytes_of text))
 told_reported bytes_of program number w told is (Ok text) same = (told, is, same)
 told_reported bytes_of program number w told is (Err e) same = tt

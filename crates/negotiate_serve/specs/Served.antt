@@ -11,7 +11,7 @@ use Rattle.iceoryx2_call_laws.specs.QuietLaws.{HasNothingAt}
 use Rattle.iceoryx2_session.specs.Sessions.{SessionState}
 use Rattle.iceoryx2_session.specs.StandingSlots.{SlotsStand, OwnsTickets}
 use Rattle.iceoryx2_session.specs.QuietSessions.{IsQuiet}
-use Rattle.negotiate_lines.specs.declared.wrong.Wrong.{Wrong}
+use Rattle.negotiate_lines.specs.declared.line_error.LineError.{LineError}
 use Rattle.negotiate_lines.specs.Lines.{IsNoCommand}
 use Rattle.negotiate_serve.specs.declared.ending.Ending.{Ending}
 use Rattle.negotiate_serve.specs.declared.ending.ServeError.{ServeError}
@@ -37,7 +37,7 @@ pub record GrowsByAnswer {M : Type 0} (Answers : Answering M) (m : M) (line : Li
 -- ---- a line
 
 -- what is written of a line of which this is wrong, which has this number, and whether the program goes on
-abbrev pub IsAnswerToWrong : WrongLines → (goes_on : Bool) → (number : ℕ) → Wrong → (output : List ℕ) → Type 0
+abbrev pub IsAnswerToWrong : WrongLines → (goes_on : Bool) → (number : ℕ) → LineError → (output : List ℕ) → Type 0
 IsAnswerToWrong wrong_lines.End goes_on k w output = (goes_on ≡ false) × (output ≡ not_a_command k)
 IsAnswerToWrong wrong_lines.Reply goes_on k w output = (goes_on ≡ true) × IsReplyToWrong [] w output
 IsAnswerToWrong wrong_lines.ReplyApart goes_on k w output = (goes_on ≡ true) × IsReplyToWrong (codes "\n") w output

@@ -13,7 +13,7 @@ use Rattle.iceoryx2_session.specs.CommandLists.{CarriesOut}
 use Rattle.iceoryx2_session.specs.QuietSessions.{Moves}
 use Rattle.negotiate_lines.specs.declared.line.Line.TheVariants as line
 use Rattle.negotiate_lines.specs.Lines.{IsLine, IsNoCommand}
-use Rattle.negotiate_lines.specs.declared.wrong.Wrong.{Wrong}
+use Rattle.negotiate_lines.specs.declared.line_error.LineError.{LineError}
 use Rattle.negotiate_lines.specs.WrongTexts.{IsWrongText}
 use Rattle.negotiate_serve.specs.declared.ending.Ending.{Ending}
 use Rattle.negotiate_serve.specs.declared.ending.Ending.TheVariants as ending
@@ -42,13 +42,13 @@ pub data AnswersLineBy {M : Type 0} (Answers : Answering M) (m : M) : (line text
       → Answers m bytes c text n → AnswersLineBy Answers m bytes text n
 
 -- The text is the reply to a line of which this is wrong, with an end after it.
-abbrev pub IsReplyToWrong : (end : List ℕ) → Wrong → List ℕ → Type 0
+abbrev pub IsReplyToWrong : (end : List ℕ) → LineError → List ℕ → Type 0
 IsReplyToWrong end w text =
     (told : List ℕ) × IsWrongText w told × (text ≡ codes "error: " ++ (told ++ (codes "\n" ++ end)))
 
 -- The text is the reply to a line that is neither blank nor a command.
 pub record IsErrorReply (end bytes text : List ℕ) : Type 0 where
-  pub wrong : Wrong
+  pub wrong : LineError
   pub no_command : IsLine bytes (line.NotACommand wrong)
   pub is_reply : IsReplyToWrong end wrong text
 

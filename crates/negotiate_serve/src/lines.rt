@@ -9,7 +9,7 @@ ghost use Rattle.negotiate_serve.specs.Transcripts.{AnsweringLines, IsReplyToWro
 use crate::answerer::Answerer;
 use crate::ending::WrongLines;
 use negotiate_lines::line::{self, Line};
-use negotiate_lines::wrong::Wrong;
+use negotiate_lines::line_error::LineError;
 use negotiate_lines::wrong_text::wrong_text;
 use std::alloc::AllocError;
 
@@ -72,7 +72,7 @@ impl<A: Answerer> Lines<A> for WrongLines {
 fn answer_wrong(
     number: u64,
     wrong_lines: WrongLines,
-    wrong: Wrong<'_>,
+    wrong: LineError<'_>,
     text: &mut String,
 ) -> Result<bool, AllocError>
     ensures { IfOk result (λ goes_on. GrowsBy (IsAnswerToWrong wrong_lines goes_on number wrong.entry)
@@ -95,7 +95,7 @@ fn answer_wrong(
 }
 
 /// Writes the reply to a line of which this is wrong, and an end after it. `AllocError` where there is no memory.
-pub fn reply_wrong(wrong: Wrong<'_>, end: &str, text: &mut String) -> Result<(), AllocError>
+pub fn reply_wrong(wrong: LineError<'_>, end: &str, text: &mut String) -> Result<(), AllocError>
     ensures { OnOk result (GrowsBy (IsReplyToWrong end.now wrong.entry)
         (string_bytes text.old) (string_bytes text.new)) }
 {

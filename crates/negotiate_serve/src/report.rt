@@ -8,7 +8,7 @@ ghost use Rattle.negotiate_serve.specs.Reports.{IsReport, IsReportOf, Reports, W
 use crate::ending::{Ending, ServeError};
 use crate::output::write_out;
 use negotiate_lines::line::{Line, parse};
-use negotiate_lines::wrong::Wrong;
+use negotiate_lines::line_error::LineError;
 use negotiate_lines::wrong_text::wrong_text;
 use std::alloc::{AllocError, Global};
 use std::io::Write;
@@ -92,7 +92,7 @@ fn told_line(
     alloc: Global,
     program: &str,
     number: u64,
-    wrong: Wrong<'_>,
+    wrong: LineError<'_>,
 ) -> Result<String, AllocError>
     ensures { IfOk result (λ text. IsReportOf program.now number (line.NotACommand wrong.entry) (string_bytes text)) }
 {

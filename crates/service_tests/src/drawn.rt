@@ -1,6 +1,6 @@
 //! Services, commands, and steps of others that are drawn by chance.
 
-use self::Deed::*;
+use self::PeerStep::*;
 use crate::support::{draw, granted, push, there};
 use iceoryx2_builder::command::{Command, SLOTS};
 use iceoryx2_data::bytes::decode;
@@ -82,7 +82,7 @@ pub const SUBJECTS: [Subject; 6] = [
 
 /// What another does. A segment and what is published are for so many nodes.
 #[derive(Clone, Copy)]
-pub enum Deed {
+pub enum PeerStep {
     Read,
     Lock,
     RemoveSegment,
@@ -94,7 +94,7 @@ pub enum Deed {
 }
 
 /// Each of them.
-pub const DEEDS: &[Deed] = &[
+pub const PEER_STEPS: &[PeerStep] = &[
     Read,
     Lock,
     RemoveSegment,
@@ -107,9 +107,9 @@ pub const DEEDS: &[Deed] = &[
     Leave,
 ];
 
-/// What others do, one deed after the other: twice as often they publish a service for all nodes. In the last but one a
+/// What others do, one step after the other: twice as often they publish a service for all nodes. In the last but one a
 /// service is replaced. In the last one a segment stays, and of the rest only the lock is allowed.
-const DOINGS: &[&[Deed]] = &[
+const DOINGS: &[&[PeerStep]] = &[
     &[Lock, Make(36), Publish(36)],
     &[Lock, Make(36), Publish(36)],
     &[Lock, Make(2), Publish(2)],
@@ -187,9 +187,9 @@ impl Forms {
     }
 }
 
-/// That deed as an act.
-fn act(rt: &impl Abort, forms: &Forms, subject: Subject, deed: Deed) -> Act {
-    match deed {
+/// That step as an act.
+fn act(rt: &impl Abort, forms: &Forms, subject: Subject, step: PeerStep) -> Act {
+    match step {
         Read => Act::Read,
         Lock => Act::Lock,
         RemoveSegment => Act::RemoveSegment,
@@ -207,13 +207,13 @@ pub fn push_steps(
     forms: &Forms,
     subject: Subject,
     steps: &mut Vec<Step>,
-    (peer, deeds): (u64, &[Deed]),
+    (peer, peer_steps): (u64, &[PeerStep]),
 ) {
-    for &deed in deeds {
+    for &peer_step in peer_steps {
         let step = Step {
             peer,
             hash: subject.hash,
-            act: act(rt, forms, subject, deed),
+            act: act(rt, forms, subject, peer_step),
         };
         push(rt, steps, step);
     }
@@ -227,8 +227,8 @@ fn drawn_batch(rt: &impl Abort, forms: &Forms, seed: &mut u64) -> Vec<Step> {
     }
     let peer = drawn(rt, seed, &[7u64, 8]);
     let subject = drawn(rt, seed, &SUBJECTS);
-    let deeds = drawn(rt, seed, DOINGS);
-    push_steps(rt, forms, subject, &mut steps, (peer, deeds));
+    let peer_steps = drawn(rt, seed, DOINGS);
+    push_steps(rt, forms, subject, &mut steps, (peer, peer_steps));
     steps
 }
 

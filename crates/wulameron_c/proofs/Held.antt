@@ -43,8 +43,8 @@ A = heap.the_row
 abbrev pub laws : Laws A
 laws = heap_laws.the_row_laws
 
-abbrev pub ApartRow : RattleType
-ApartRow = stored.row V A laws ghosts
+abbrev pub RawBoxRow : RattleType
+RawBoxRow = stored.row V A laws ghosts
 
 abbrev pub Row : RattleType
 Row = held.the_row

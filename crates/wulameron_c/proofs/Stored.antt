@@ -1,4 +1,4 @@
--- How an `Apart` lies in the machine, and how it is opened and closed.
+-- How an `RawBox` lies in the machine, and how it is opened and closed.
 use Rattle.std.proofs.Common.{◌≡◌, ℕ, List, [], ◌∷◌, ◌++◌, refl, subst}
 use mathlib.Core.Bool.{Bool, true, false, ◌&&◌}
 use lib.Dec.{T}
@@ -22,7 +22,7 @@ use Rattle.std.specs.declared.alloc.Allocator.{Ghosts}
 use Rattle.std.proofs.alloc.Calls.{Al, handle_tells}
 use Rattle.std.proofs.cell.Inside.{Good}
 use Rattle.std.specs.Box.Ownership.{box_owns}
-use Rattle.wulameron_c.specs.contracts.apart.Apart as apart
+use Rattle.wulameron_c.specs.contracts.raw_box.RawBox as apart
 
 -- a struct of two fields
 abbrev pub pair : Val → Val → Val

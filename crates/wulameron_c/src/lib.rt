@@ -10,16 +10,16 @@
 //! `tools/check-bindings` alone.
 #![tactic(auto)]
 
-mod apart;
 mod pointer;
+mod raw_box;
 mod table_session;
 
 ghost use Rattle.std.specs.Prelude.{◌≡◌, ◌≢◌, IfSome, None, Some};
 ghost use Rattle.wulameron_c.specs.Pointers.{Acts, Closes, IsSound, Opens, open_mark};
 ghost use Rattle.wulameron_c.specs.TableSessions.{AnswersInto};
 
-use crate::apart::Apart;
 use crate::pointer::SessionPointer;
+use crate::raw_box::RawBox;
 use crate::table_session::TableSession;
 use std::alloc::Global;
 
@@ -71,7 +71,7 @@ impl Handle {
         ensures mark { self.new.mark ≡ self.old.mark }
         ensures held { self.new.held.session ≡ Some session.value }
     {
-        self.held = SessionPointer::of(Apart::take(session));
+        self.held = SessionPointer::of(RawBox::take(session));
     }
 }
 
@@ -95,7 +95,7 @@ pub extern "C" fn wulameron_c_open_table(alloc: Global, handle: &mut Handle) -> 
     }
     match Box::new(alloc, TableSession::new(alloc)) {
         Ok(session) => {
-            handle.held = SessionPointer::of(Apart::take(session));
+            handle.held = SessionPointer::of(RawBox::take(session));
             handle.mark = OPEN;
             DONE
         }

@@ -4,7 +4,7 @@ ghost use Rattle.std.specs.Prelude.{◌≡◌, Option, Some, None, IsSome};
 ghost use Rattle.wulameron_c.specs.Pointers.{pointer_owns, session_coded};
 ghost use Rattle.wulameron_c.specs.declared.table_session.TableSession.{TableSession};
 
-use crate::apart::Apart;
+use crate::raw_box::RawBox;
 use crate::table_session::TableSession;
 use std::alloc::Global;
 use std::marker::Model;
@@ -34,10 +34,10 @@ impl SessionPointer {
     }
 
     /// The session of a box that was taken apart.
-    pub(crate) fn of(apart: Apart<TableSession, Global>) -> SessionPointer
+    pub(crate) fn of(apart: RawBox<TableSession, Global>) -> SessionPointer
         ensures { result.session ≡ Some apart.value }
     {
-        let Apart { pointer, alloc } = apart;
+        let RawBox { pointer, alloc } = apart;
         SessionPointer {
             pointer: pointer as *mut u8,
             alloc,
@@ -45,12 +45,12 @@ impl SessionPointer {
     }
 
     /// What the box of the session was taken apart to.
-    pub(crate) fn into_apart(self) -> Apart<TableSession, Global>
+    pub(crate) fn into_apart(self) -> RawBox<TableSession, Global>
         requires { IsSome self.session }
         ensures { Some result.value ≡ self.session }
     {
         let SessionPointer { pointer, alloc } = self;
-        Apart {
+        RawBox {
             pointer: pointer as *mut TableSession,
             alloc,
         }

@@ -18,8 +18,8 @@ use iceoryx2_session::session::Session;
 use iceoryx2_session::world_storage::WorldStorage;
 use negotiate_lines::leaf::Form;
 use negotiate_lines::line::{Line, parse_in};
+use negotiate_lines::line_error::LineError;
 use negotiate_lines::vocabulary::Kind;
-use negotiate_lines::wrong::Wrong;
 use negotiate_lines::wrong_text::wrong_text;
 use negotiate_serve::ending::{DONE, FAULT, NOT_A_COMMAND, ServeError};
 use negotiate_serve::output::write_out;
@@ -89,7 +89,7 @@ fn refuse_words<E: Write>(alloc: Global, hold: &Hold<'_>, errors: &mut E) -> Opt
 /// Writes what is wrong with the words of a call.
 fn report_words<E: Write>(
     alloc: Global,
-    wrong: Wrong<'_>,
+    wrong: LineError<'_>,
     errors: &mut E,
 ) -> Result<(), ServeError> {
     match words_line(alloc, wrong) {
@@ -99,7 +99,7 @@ fn report_words<E: Write>(
 }
 
 /// The line of what is wrong with the words of a call, which are told as they were given.
-fn words_line(alloc: Global, wrong: Wrong<'_>) -> Result<String, AllocError> {
+fn words_line(alloc: Global, wrong: LineError<'_>) -> Result<String, AllocError> {
     let (first, second) = terms_in(wrong);
     let first = given(alloc, first)?;
     let second = given(alloc, second)?;
@@ -109,9 +109,9 @@ fn words_line(alloc: Global, wrong: Wrong<'_>) -> Result<String, AllocError> {
 }
 
 /// What is told besides of a word that is wrong.
-fn hint(wrong: Wrong<'_>) -> &'static str {
+fn hint(wrong: LineError<'_>) -> &'static str {
     match wrong {
-        Wrong::Value(_, _, Kind::Type) => {
+        LineError::Value(_, _, Kind::Type) => {
             "; size and alignment are bytes, and the alignment is a power of two"
         }
         _ => "",
@@ -131,50 +131,50 @@ fn given<'a>(alloc: Global, term: &'a str) -> Result<CowStr<'a>, AllocError> {
 }
 
 /// The words, or parts of them, of which something is wrong: at most two.
-fn terms_in<'a>(wrong: Wrong<'a>) -> (&'a str, &'a str) {
+fn terms_in<'a>(wrong: LineError<'a>) -> (&'a str, &'a str) {
     match wrong {
-        Wrong::NameLength(term)
-        | Wrong::NoEqualsSign(term)
-        | Wrong::NoTime(term)
-        | Wrong::NoColon(term)
-        | Wrong::KeyLength(term)
-        | Wrong::ValueLength(term)
-        | Wrong::TooManyKeys(term) => (term, ""),
-        Wrong::NoSuchSetting {
+        LineError::NameLength(term)
+        | LineError::NoEqualsSign(term)
+        | LineError::NoTime(term)
+        | LineError::NoColon(term)
+        | LineError::KeyLength(term)
+        | LineError::ValueLength(term)
+        | LineError::TooManyKeys(term) => (term, ""),
+        LineError::NoSuchSetting {
             name,
             pattern: _,
             settings: _,
             admitted: _,
         } => (name, ""),
-        Wrong::Value(name, value, _) => (name, value),
-        Wrong::TooManyPairs(key, value) => (key, value),
+        LineError::Value(name, value, _) => (name, value),
+        LineError::TooManyPairs(key, value) => (key, value),
         _ => ("", ""),
     }
 }
 
 /// The same of these words in place of its own.
-fn with_terms<'a>(wrong: Wrong<'a>, first: &'a str, second: &'a str) -> Wrong<'a> {
+fn with_terms<'a>(wrong: LineError<'a>, first: &'a str, second: &'a str) -> LineError<'a> {
     match wrong {
-        Wrong::NameLength(_) => Wrong::NameLength(first),
-        Wrong::NoEqualsSign(_) => Wrong::NoEqualsSign(first),
-        Wrong::NoTime(_) => Wrong::NoTime(first),
-        Wrong::NoColon(_) => Wrong::NoColon(first),
-        Wrong::KeyLength(_) => Wrong::KeyLength(first),
-        Wrong::ValueLength(_) => Wrong::ValueLength(first),
-        Wrong::TooManyKeys(_) => Wrong::TooManyKeys(first),
-        Wrong::NoSuchSetting {
+        LineError::NameLength(_) => LineError::NameLength(first),
+        LineError::NoEqualsSign(_) => LineError::NoEqualsSign(first),
+        LineError::NoTime(_) => LineError::NoTime(first),
+        LineError::NoColon(_) => LineError::NoColon(first),
+        LineError::KeyLength(_) => LineError::KeyLength(first),
+        LineError::ValueLength(_) => LineError::ValueLength(first),
+        LineError::TooManyKeys(_) => LineError::TooManyKeys(first),
+        LineError::NoSuchSetting {
             name: _,
             pattern,
             settings,
             admitted,
-        } => Wrong::NoSuchSetting {
+        } => LineError::NoSuchSetting {
             name: first,
             pattern,
             settings,
             admitted,
         },
-        Wrong::Value(_, _, kind) => Wrong::Value(first, second, kind),
-        Wrong::TooManyPairs(_, _) => Wrong::TooManyPairs(first, second),
+        LineError::Value(_, _, kind) => LineError::Value(first, second, kind),
+        LineError::TooManyPairs(_, _) => LineError::TooManyPairs(first, second),
         _ => wrong,
     }
 }

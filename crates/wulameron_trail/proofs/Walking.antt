@@ -19,7 +19,7 @@ use Rattle.iceoryx2_file_log.specs.Header.{IsForm as IsHeaderForm, HasVersion}
 use Rattle.iceoryx2_journal.specs.Follow.{IsFollowed}
 use Rattle.wulameron_trail.specs.declared.checker.Ending.{Ending}
 use Rattle.wulameron_trail.specs.declared.checker.Sound.{Sound}
-use Rattle.wulameron_trail.specs.declared.checker.Wrong.{Wrong}
+use Rattle.wulameron_trail.specs.declared.checker.LogFault.{LogFault}
 use Rattle.wulameron_trail.specs.declared.checker.Found.{Found}
 use Rattle.wulameron_trail.specs.declared.checker.Verdict.TheVariants as verdict
 use Rattle.wulameron_trail.specs.Checking.{Reaches, ReachedWorldsAgree, begun, goes, Fits, IsAccess, IsEnd, IsNoHeader, IsWrongNext, Parts}
@@ -93,7 +93,7 @@ ends_there h entries at place w ending s le reaches end snapshot is bytes front 
       end = subst (λ (x : Ending). IsEnd (drop at entries) x) (sym (ap (λ (x : Sound). x.ending) is)) end;
     }
 
-pub fails_there : (h : Header) (entries : List ℕ) (at place : ℕ) (w : World) (wrong : Wrong) (f : Found)
+pub fails_there : (h : Header) (entries : List ℕ) (at place : ℕ) (w : World) (wrong : LogFault) (f : Found)
     → at ≤ length entries → Reaches h (take at entries) place w
     → IsWrongNext h.snapshot_length w at (drop at entries) wrong
     → f ≡ record { wrong = wrong; place = place; byte = HEADER_LENGTH + at } → IsVerdictOn h entries (verdict.Wrong f)
@@ -107,7 +107,7 @@ fails_there h entries at place w wrong f le reaches next is bytes front form par
       parts = subst (λ (n : ℕ). Parts bytes h (take at entries) (drop at entries) n w) (sym (ap (λ (x : Found). x.place) is))
           (parts_there h entries at place w bytes front reaches form parts);
       byte = ap (λ (x : Found). x.byte) is ∙ ap (λ (n : ℕ). HEADER_LENGTH + n) (sym long);
-      is = subst (λ (x : Wrong). IsWrongNext h.snapshot_length w (length (take at entries)) (drop at entries) x)
+      is = subst (λ (x : LogFault). IsWrongNext h.snapshot_length w (length (take at entries)) (drop at entries) x)
           (sym (ap (λ (x : Found). x.wrong) is))
           (subst (λ (n : ℕ). IsWrongNext h.snapshot_length w n (drop at entries) wrong) (sym long) next);
     })

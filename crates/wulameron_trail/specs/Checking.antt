@@ -2,7 +2,7 @@
 use Rattle.std.specs.Prelude.{◌≡◌, ◌≢◌, ◌⊎◌, ◌<◌, ◌≤◌, ℕ, ◌+◌, List, [], ◌++◌, length, take}
 use Rattle.iceoryx2_world.specs.World.{World, empty_world}
 use Rattle.iceoryx2_world.specs.Agreement.{Agrees}
-use Rattle.iceoryx2_log.specs.declared.entry.Deed.TheVariants.{Moved as Mark}
+use Rattle.iceoryx2_log.specs.declared.entry.Operation.TheVariants.{Moved as Mark}
 use Rattle.iceoryx2_log.specs.declared.entry.Entry.{Entry}
 use Rattle.iceoryx2_log.specs.Form.{IsForm, Begins}
 use Rattle.iceoryx2_file_log.specs.declared.header.TheConstants.{HEADER_LENGTH, VERSION}
@@ -15,8 +15,8 @@ use Rattle.iceoryx2_journal.specs.Follow.{IsFollowed, Differs}
 use Rattle.wulameron_trail.specs.declared.checker.Ending.{Ending}
 use Rattle.wulameron_trail.specs.declared.checker.Ending.TheVariants as ending
 use Rattle.wulameron_trail.specs.declared.checker.Sound.{Sound}
-use Rattle.wulameron_trail.specs.declared.checker.Wrong.{Wrong}
-use Rattle.wulameron_trail.specs.declared.checker.Wrong.TheVariants as wrong
+use Rattle.wulameron_trail.specs.declared.checker.LogFault.{LogFault}
+use Rattle.wulameron_trail.specs.declared.checker.LogFault.TheVariants as wrong
 use Rattle.wulameron_trail.specs.declared.checker.Found.{Found}
 use Rattle.wulameron_trail.specs.declared.checker.Verdict.{Verdict}
 use Rattle.wulameron_trail.specs.declared.checker.Verdict.TheVariants as verdict
@@ -53,7 +53,7 @@ pub record Parts (bytes : List ℕ) (h : Header) (taken rest : List ℕ) (n : �
 abbrev pub IsEnd : List ℕ → Ending → Type 0
 IsEnd rest ending.Whole = rest ≡ []
 IsEnd rest (ending.Torn n) = IsTorn rest × (n ≡ length rest) × (rest ≢ [])
-IsEnd rest ending.Moved = (e : Entry) × Begins rest e (length rest) × (e.deed ≡ Mark)
+IsEnd rest ending.Moved = (e : Entry) × Begins rest e (length rest) × (e.operation ≡ Mark)
 
 -- The bytes are a header and so many entries that are followed, the snapshot's among them, up to this byte, and then
 -- such an end.
@@ -83,7 +83,7 @@ IsNoHeader bytes header.Damaged =
 
 -- An entry begins there that is no mark.
 abbrev pub IsAccess : List ℕ → Entry → ℕ → Type 0
-IsAccess rest e count = Begins rest e count × (e.deed ≢ Mark)
+IsAccess rest e count = Begins rest e count × (e.operation ≢ Mark)
 
 -- The snapshot of this length ends before its length: within an entry, or with the file.
 abbrev pub IsShort : (snapshot at : ℕ) → List ℕ → Type 0
@@ -93,7 +93,7 @@ IsShort snapshot at rest =
 
 -- What is wrong with the first thing of the rest, after so many bytes of entries that come to this world. That an
 -- entry isn't answered is that the world answers otherwise than the entry has it.
-abbrev pub IsWrongNext : (snapshot : ℕ) → World → (at : ℕ) → List ℕ → Wrong → Type 0
+abbrev pub IsWrongNext : (snapshot : ℕ) → World → (at : ℕ) → List ℕ → LogFault → Type 0
 IsWrongNext snapshot w at rest (wrong.BadHeader error) = ⊥
 IsWrongNext snapshot w at rest wrong.DamagedEntry =
     (IsTorn rest → ⊥) × ((e : Entry) (count : ℕ) → Begins rest e count → ⊥)
@@ -101,7 +101,7 @@ IsWrongNext snapshot w at rest wrong.NotAnswered =
     (e : Entry) × (count : ℕ) × (u : World) × IsAccess rest e count × Fits snapshot at count × Differs w e u
 IsWrongNext snapshot w at rest wrong.ShortSnapshot = IsShort snapshot at rest
 IsWrongNext snapshot w at rest wrong.MarkNotLast =
-    (e : Entry) × (count : ℕ) × Begins rest e count × (e.deed ≡ Mark) × (count < length rest)
+    (e : Entry) × (count : ℕ) × Begins rest e count × (e.operation ≡ Mark) × (count < length rest)
 
 -- The first thing that is wrong stands after a header and so many entries that are followed.
 pub record IsWrongAfter (bytes : List ℕ) (f : Found) : Type 0 where

@@ -3,7 +3,7 @@ use Rattle.std.specs.Prelude.{◌≡◌, ℕ, List, [], ◌++◌, Option, Result
 use Rattle.std.specs.declared.ops.ControlFlow.{ControlFlow}
 use Rattle.std.specs.declared.ops.ControlFlow.TheVariants.{Continue, Break}
 use Rattle.std.specs.Io.KnownBytes.{Appends, Keeps}
-use Rattle.iceoryx2_log.specs.declared.entry.Deed.TheVariants.{Moved as Mark}
+use Rattle.iceoryx2_log.specs.declared.entry.Operation.TheVariants.{Moved as Mark}
 use Rattle.iceoryx2_log.specs.declared.entry.Entry.{Entry}
 use Rattle.iceoryx2_log.specs.Form.{IsForm, Begins}
 use Rattle.iceoryx2_file_log.specs.Remainder.{IsTorn}
@@ -46,7 +46,7 @@ module _ {P : Type 0} (Shows : P → Entry → List ℕ → P → Type 0) where
   abbrev pub IsEndBefore : Result Rest Stop → List ℕ → (reached new : P) → Type 0
   IsEndBefore (Ok rest.Ended) left reached new = IsTorn left × (reached ≡ new)
   IsEndBefore (Ok (rest.Moved e)) left reached new =
-      (count : ℕ) × Begins left e count × (e.deed ≡ Mark) × (reached ≡ new)
+      (count : ℕ) × Begins left e count × (e.operation ≡ Mark) × (reached ≡ new)
   IsEndBefore (Err stop.Damaged) left reached new = BeginsWithDamage left
   IsEndBefore (Err stop.NotAnswered) left reached new = (e : Entry) × (count : ℕ) × Begins left e count
   IsEndBefore (Err (stop.Refused f)) left reached new = Unit {0}

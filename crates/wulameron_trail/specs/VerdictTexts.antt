@@ -3,8 +3,8 @@ use Rattle.std.specs.Prelude.{ℕ, List, ◌++◌, codes, decimal}
 use Rattle.iceoryx2_file_log.specs.declared.header.HeaderError.TheVariants as header
 use Rattle.wulameron_trail.specs.declared.checker.Ending.{Ending}
 use Rattle.wulameron_trail.specs.declared.checker.Ending.TheVariants as ending
-use Rattle.wulameron_trail.specs.declared.checker.Wrong.{Wrong}
-use Rattle.wulameron_trail.specs.declared.checker.Wrong.TheVariants as wrong
+use Rattle.wulameron_trail.specs.declared.checker.LogFault.{LogFault}
+use Rattle.wulameron_trail.specs.declared.checker.LogFault.TheVariants as wrong
 use Rattle.wulameron_trail.specs.declared.checker.Found.{Found}
 use Rattle.wulameron_trail.specs.declared.checker.Verdict.{Verdict}
 use Rattle.wulameron_trail.specs.declared.checker.Verdict.TheVariants as verdict
@@ -17,7 +17,7 @@ ending_text (ending.Torn n) =
 ending_text ending.Moved = codes "; the log goes on in another file: check the one that has its path now\n"
 
 -- what is wrong
-abbrev pub wrong_text : Wrong → List ℕ
+abbrev pub wrong_text : LogFault → List ℕ
 wrong_text (wrong.BadHeader header.NotALog) = codes "this is no log"
 wrong_text (wrong.BadHeader (header.AnotherVersion found)) = codes "this is a log of version " ++ decimal found
 wrong_text (wrong.BadHeader header.Damaged) = codes "the header is damaged"
@@ -27,7 +27,7 @@ wrong_text wrong.ShortSnapshot = codes "the snapshot is shorter than the header 
 wrong_text wrong.MarkNotLast = codes "more follows the mark that the log goes on in another file"
 
 -- what can be done about it
-abbrev pub remedy : Wrong → List ℕ
+abbrev pub remedy : LogFault → List ℕ
 remedy (wrong.BadHeader header.NotALog) = codes "name another file"
 remedy (wrong.BadHeader (header.AnotherVersion found)) = codes "use a program of that version"
 remedy (wrong.BadHeader header.Damaged) = codes "begin another log"

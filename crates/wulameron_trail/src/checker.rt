@@ -3,7 +3,7 @@
 ghost use Rattle.std.specs.Prelude.{◌≡◌, ◌↔◌, ◌++◌, ◌+◌, ◌<◌, ◌^◌, ℕ, List, IfOk, IfErr, IsTrue, take};
 ghost use Rattle.iceoryx2_world.specs.World.{World};
 ghost use Rattle.iceoryx2_log.specs.declared.entry.Entry as declared;
-ghost use Rattle.iceoryx2_log.specs.declared.entry.Deed.TheVariants.{Moved as mark};
+ghost use Rattle.iceoryx2_log.specs.declared.entry.Operation.TheVariants.{Moved as mark};
 ghost use Rattle.iceoryx2_file_log.specs.Remainder.{IsTorn};
 ghost use Rattle.iceoryx2_file_log.specs.declared.header.TheConstants.{HEADER_LENGTH as header_length};
 ghost use Rattle.iceoryx2_log.specs.Form.{Begins};
@@ -14,7 +14,7 @@ ghost use Rattle.wulameron_trail.specs.Steps.{IsStep, IsVerdictOn};
 use iceoryx2_file_log::header::{self, HEADER_LENGTH, Header, HeaderError};
 use iceoryx2_file_log::remainder::{Front, front_of};
 use iceoryx2_journal::follow::{FollowError, follow};
-use iceoryx2_log::entry::{Deed, Entry};
+use iceoryx2_log::entry::{Entry, Operation};
 use iceoryx2_table::table::stored::StoredWorld;
 use std::alloc::{AllocError, Global};
 
@@ -41,7 +41,7 @@ pub struct Sound {
 
 /// What is wrong with a log.
 #[derive(Clone, Copy, Debug, PartialEq, Eq)]
-pub enum Wrong {
+pub enum LogFault {
     /// Its first bytes are no header.
     BadHeader(HeaderError),
     /// There is no entry, and no end that a writer leaves that died.
@@ -57,7 +57,7 @@ pub enum Wrong {
 /// The first thing that is wrong with a log.
 #[derive(Clone, Copy, Debug, PartialEq, Eq)]
 pub struct Found {
-    pub wrong: Wrong,
+    pub wrong: LogFault,
     /// The number of the entry where that is, counted from 0.
     pub place: u64,
     /// The byte of the file where that begins, counted from 0.
@@ -79,7 +79,7 @@ enum Step {
     /// Its end.
     Ended(Ending),
     /// Something that is wrong.
-    Failed(Wrong),
+    Failed(LogFault),
 }
 
 /// Where an entry stands.
@@ -98,7 +98,7 @@ fn ended(snapshot: u64, at: u64, ending: Ending) -> Step
     ensures { (w : World) (rest : List ℕ) → IsEnd rest ending → IsStep snapshot w at rest result w }
 {
     if at < snapshot {
-        return Step::Failed(Wrong::ShortSnapshot);
+        return Step::Failed(LogFault::ShortSnapshot);
     }
     Step::Ended(ending)
 }
@@ -121,23 +121,23 @@ fn fits(snapshot: u64, at: u64, count: u64) -> bool
     count <= snapshot.saturating_sub(at) || snapshot <= at
 }
 
-/// Whether the deed is the mark that the log goes on in another file.
-pub(crate) fn is_mark(deed: &Deed) -> bool
-    ensures { IsTrue result ↔ (deed.now ≡ mark) }
+/// Whether the operation is the mark that the log goes on in another file.
+pub(crate) fn is_mark(operation: &Operation) -> bool
+    ensures { IsTrue result ↔ (operation.now ≡ mark) }
 {
-    match deed {
-        Deed::Moved => true,
+    match operation {
+        Operation::Moved => true,
         _ => false,
     }
 }
 
 /// What comes of a mark of so many bytes.
 fn marked(snapshot: u64, at: u64, rest: &[u8], count: usize) -> Step
-    ensures { (w : World) (e : declared.Entry) → Begins rest.now e count → e.deed ≡ mark
+    ensures { (w : World) (e : declared.Entry) → Begins rest.now e count → e.operation ≡ mark
         → IsStep snapshot w at rest.now result w }
 {
     if count < rest.len() {
-        return Step::Failed(Wrong::MarkNotLast);
+        return Step::Failed(LogFault::MarkNotLast);
     }
     ended(snapshot, at, Ending::Moved)
 }
@@ -153,13 +153,13 @@ fn accessed(
         → IsStep span.snapshot world.old span.at rest step world.new) }
 {
     if !fits(span.snapshot, span.at, span.count as u64) {
-        return Ok(Step::Failed(Wrong::ShortSnapshot));
+        return Ok(Step::Failed(LogFault::ShortSnapshot));
     }
     match follow(alloc, world, entry) {
         Ok(()) => Ok(Step::Followed(span.count)),
         Err(error) => match error {
             FollowError::OutOfMemory => Err(AllocError),
-            FollowError::Disagrees => Ok(Step::Failed(Wrong::NotAnswered)),
+            FollowError::Disagrees => Ok(Step::Failed(LogFault::NotAnswered)),
         },
     }
 }
@@ -176,7 +176,7 @@ fn next_step(
 {
     match front_of(alloc, rest, rest.len() as u64)? {
         Front::Whole { entry, count } => {
-            if is_mark(&entry.deed) {
+            if is_mark(&entry.operation) {
                 return Ok(marked(snapshot, at, rest, count));
             }
             accessed(
@@ -191,7 +191,7 @@ fn next_step(
             )
         }
         Front::Torn => Ok(ended(snapshot, at, torn(rest))),
-        Front::Unfinished | Front::Damaged => Ok(Step::Failed(Wrong::DamagedEntry)),
+        Front::Unfinished | Front::Damaged => Ok(Step::Failed(LogFault::DamagedEntry)),
     }
 }
 
@@ -208,7 +208,7 @@ fn ended_at(entries: u64, at: usize, ending: Ending) -> Sound
 }
 
 /// What is wrong after so many bytes of entries.
-fn failed_at(wrong: Wrong, place: u64, at: usize) -> Found
+fn failed_at(wrong: LogFault, place: u64, at: usize) -> Found
     requires { at < 2 ^ 63 }
     ensures { result ≡ record { wrong = wrong; place = place; byte = header_length + at } }
 {
@@ -272,7 +272,7 @@ pub fn check(alloc: Global, bytes: &[u8]) -> Result<Verdict, AllocError>
     match header_of(front) {
         Ok(header) => walk(alloc, &header, entries),
         Err(error) => Ok(Verdict::Wrong(Found {
-            wrong: Wrong::BadHeader(error),
+            wrong: LogFault::BadHeader(error),
             place: 0,
             byte: 0,
         })),

@@ -8,7 +8,7 @@ ghost use Rattle.wulameron_trail.specs.EntryTexts.{published_as as published_tex
 
 use crate::descriptions::read;
 use iceoryx2_description::description::StaticConfig;
-use iceoryx2_log::entry::{Deed, Entry};
+use iceoryx2_log::entry::{Entry, Operation};
 use negotiate_lines::escape::escape;
 use std::alloc::{AllocError, Global};
 use wulameron_view::list_text::term_of;
@@ -20,7 +20,7 @@ pub fn entry_line(place: u64, entry: &Entry, text: &mut String) -> Result<(), Al
     ensures { OnOk result (AddsEntryLine place entry.now (string_bytes text.old) (string_bytes text.new)) }
 {
     let doer = doer(*text.allocator(), entry)?;
-    let done = deed_text(*text.allocator(), entry)?;
+    let done = operation_text(*text.allocator(), entry)?;
     writeln!(text, "{place} {doer}{done}")
 }
 
@@ -29,36 +29,38 @@ pub(crate) fn doer(alloc: Global, entry: &Entry) -> Result<String, AllocError>
     ensures { IfOk result (λ text. string_bytes text ≡ doer_text entry.now) }
 {
     let node = entry.node;
-    match &entry.deed {
-        Deed::Moved => Ok(String::new(alloc)),
+    match &entry.operation {
+        Operation::Moved => Ok(String::new(alloc)),
         _ => format!(in alloc; "node {node} "),
     }
 }
 
 /// What an entry did, without who did it.
-pub(crate) fn deed_text(alloc: Global, entry: &Entry) -> Result<String, AllocError>
-    ensures { IfOk result (λ text. IsDone entry.now.hash.0 entry.now.deed (string_bytes text)) }
+pub(crate) fn operation_text(alloc: Global, entry: &Entry) -> Result<String, AllocError>
+    ensures { IfOk result (λ text. IsDone entry.now.hash.0 entry.now.operation (string_bytes text)) }
 {
     let hash = entry.hash.to_text(alloc)?;
-    match &entry.deed {
-        Deed::MakeTag => format!(in alloc; "makes tag {hash}"),
-        Deed::RemoveTag => format!(in alloc; "removes tag {hash}"),
-        Deed::Lock { number } => format!(in alloc; "locks {hash} number={number}"),
-        Deed::MakeSegment { number, max_nodes } => {
+    match &entry.operation {
+        Operation::MakeTag => format!(in alloc; "makes tag {hash}"),
+        Operation::RemoveTag => format!(in alloc; "removes tag {hash}"),
+        Operation::Lock { number } => format!(in alloc; "locks {hash} number={number}"),
+        Operation::MakeSegment { number, max_nodes } => {
             format!(in alloc; "makes segment {hash} number={number} max_nodes={max_nodes}")
         }
-        Deed::RemoveSegment => format!(in alloc; "removes segment {hash}"),
-        Deed::RemoveDescription => format!(in alloc; "removes description {hash}"),
-        Deed::Publish { number, bytes } => {
+        Operation::RemoveSegment => format!(in alloc; "removes segment {hash}"),
+        Operation::RemoveDescription => format!(in alloc; "removes description {hash}"),
+        Operation::Publish { number, bytes } => {
             let found = read(alloc, bytes.as_slice())?;
             publishing_text(alloc, &hash, *number, &found)
         }
-        Deed::OpenSegment { number, ticket } => {
+        Operation::OpenSegment { number, ticket } => {
             format!(in alloc; "opens {hash} number={number} ticket={ticket}")
         }
-        Deed::Release { ticket, number: _ } => format!(in alloc; "releases {hash} ticket={ticket}"),
-        Deed::Spend { number } => format!(in alloc; "spends numbers up to {number}"),
-        Deed::Moved => String::from_str(alloc, "the log goes on in another file"),
+        Operation::Release { ticket, number: _ } => format!(in alloc;
+            "releases {hash} ticket={ticket}"
+        ),
+        Operation::Spend { number } => format!(in alloc; "spends numbers up to {number}"),
+        Operation::Moved => String::from_str(alloc, "the log goes on in another file"),
     }
 }
 

@@ -73,7 +73,7 @@ fn show_found<P: Shows, W: Write>(
         → ShowsNext P.shows bytes shown.old shown.new result ahead.new left
         (W.contents output.old) (W.contents output.new) }
 {
-    if is_mark(&entry.deed) {
+    if is_mark(&entry.operation) {
         return Ok(ControlFlow::Break(Rest::Moved(entry)));
     }
     match show_entry(&entry, shown, text, output) {

@@ -1,13 +1,13 @@
 //! Reading a log by a handle that only looks, wherever the log lies.
 
-use crate::checker::{Found, Verdict, Wrong};
+use crate::checker::{Found, LogFault, Verdict};
 use crate::following::Source;
 use crate::printing::{Rest, Shows, show_entry};
 use crate::showing::Silence;
 use crate::stopping::Stop;
 use iceoryx2_description::description::ServiceHash;
 use iceoryx2_file_log::header::{self, HEADER_LENGTH, Header, LogName};
-use iceoryx2_log::entry::{Deed, Entry};
+use iceoryx2_log::entry::{Entry, Operation};
 use iceoryx2_log::form::{EncodeError, encode};
 use iceoryx2_log::log::LogError;
 use iceoryx2_table::table::stored::StoredWorld;
@@ -34,7 +34,7 @@ fn mark() -> Entry {
     Entry {
         node: 0,
         hash: ServiceHash([0; 20]),
-        deed: Deed::Moved,
+        operation: Operation::Moved,
     }
 }
 
@@ -131,7 +131,7 @@ impl<L> LogRows<L> {
         Verdict::Wrong(Found {
             byte: self.byte,
             place: self.at,
-            wrong: Wrong::DamagedEntry,
+            wrong: LogFault::DamagedEntry,
         })
     }
 }

@@ -4,7 +4,7 @@ ghost use Rattle.std.specs.Prelude.{◌≡◌, ◌++◌, IfOk, OnOk, string_byte
 ghost use Rattle.wulameron_trail.specs.VerdictTexts.{ending_text, found_line, verdict_line, wrong_text};
 ghost use Rattle.wulameron_trail.specs.VerdictTexts.{remedy as remedy_text};
 
-use crate::checker::{Ending, Found, Verdict, Wrong};
+use crate::checker::{Ending, Found, LogFault, Verdict};
 use iceoryx2_file_log::header::HeaderError;
 use std::alloc::{AllocError, Global};
 
@@ -56,23 +56,26 @@ fn write_ending(ending: Ending, text: &mut String) -> Result<(), AllocError>
 }
 
 /// What is wrong.
-fn words_of(alloc: Global, wrong: Wrong) -> Result<String, AllocError>
+fn words_of(alloc: Global, wrong: LogFault) -> Result<String, AllocError>
     ensures { IfOk result (λ text. string_bytes text ≡ wrong_text wrong) }
 {
     match wrong {
-        Wrong::BadHeader(HeaderError::AnotherVersion { found }) => {
+        LogFault::BadHeader(HeaderError::AnotherVersion { found }) => {
             format!(in alloc; "this is a log of version {found}")
         }
-        Wrong::BadHeader(HeaderError::NotALog) => String::from_str(alloc, "this is no log"),
-        Wrong::BadHeader(HeaderError::Damaged) => String::from_str(alloc, "the header is damaged"),
-        Wrong::DamagedEntry => String::from_str(alloc, "the entry is damaged"),
-        Wrong::NotAnswered => {
+        LogFault::BadHeader(HeaderError::NotALog) => String::from_str(alloc, "this is no log"),
+        LogFault::BadHeader(HeaderError::Damaged) => String::from_str(
+            alloc,
+            "the header is damaged",
+        ),
+        LogFault::DamagedEntry => String::from_str(alloc, "the entry is damaged"),
+        LogFault::NotAnswered => {
             String::from_str(alloc, "the entry is not what the services before it answer")
         }
-        Wrong::ShortSnapshot => {
+        LogFault::ShortSnapshot => {
             String::from_str(alloc, "the snapshot is shorter than the header has it")
         }
-        Wrong::MarkNotLast => String::from_str(
+        LogFault::MarkNotLast => String::from_str(
             alloc,
             "more follows the mark that the log goes on in another file",
         ),
@@ -80,18 +83,18 @@ fn words_of(alloc: Global, wrong: Wrong) -> Result<String, AllocError>
 }
 
 /// What can be done about it.
-fn remedy(wrong: Wrong) -> &'static str
+fn remedy(wrong: LogFault) -> &'static str
     ensures { result.now ≡ remedy_text wrong }
 {
     match wrong {
-        Wrong::BadHeader(HeaderError::NotALog) => "name another file",
-        Wrong::BadHeader(HeaderError::AnotherVersion { found: _ }) =>
+        LogFault::BadHeader(HeaderError::NotALog) => "name another file",
+        LogFault::BadHeader(HeaderError::AnotherVersion { found: _ }) =>
             "use a program of that version",
-        Wrong::BadHeader(HeaderError::Damaged) => "begin another log",
-        Wrong::DamagedEntry => "begin another log",
-        Wrong::NotAnswered => "see which program wrote it, and begin another log",
-        Wrong::ShortSnapshot => "begin another log",
-        Wrong::MarkNotLast => {
+        LogFault::BadHeader(HeaderError::Damaged) => "begin another log",
+        LogFault::DamagedEntry => "begin another log",
+        LogFault::NotAnswered => "see which program wrote it, and begin another log",
+        LogFault::ShortSnapshot => "begin another log",
+        LogFault::MarkNotLast => {
             "check the file that has its path now, and begin another log where it is this one"
         }
     }

@@ -2,7 +2,7 @@
 
 use super::{Reached, entry, from_key, last_left};
 use iceoryx2_description::description::ServiceHash;
-use iceoryx2_log::entry::{Deed, Entry};
+use iceoryx2_log::entry::{Entry, Operation};
 use iceoryx2_table::rows::RowState;
 use iceoryx2_table::table::stored::StoredWorld;
 use iceoryx2_world::world::{Phase, Ticket};
@@ -56,7 +56,7 @@ fn is_released(ticket: u64, held: &Ticket, from: &StoredWorld, to: &StoredWorld)
 // The entry of its release.
 fn release_of(ticket: u64, held: &Ticket) -> Entry {
     let number = held.number;
-    entry(held.node, held.hash, Deed::Release { ticket, number })
+    entry(held.node, held.hash, Operation::Release { ticket, number })
 }
 
 /// The next release before numbers are used.

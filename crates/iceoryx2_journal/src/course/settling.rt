@@ -8,7 +8,7 @@ use iceoryx2_description::description::{
     MessagingPattern, ServiceHash, ServiceName, ServiceNameError, StaticConfig,
 };
 use iceoryx2_description::event;
-use iceoryx2_log::entry::{Deed, Entry, FormBytes};
+use iceoryx2_log::entry::{Entry, FormBytes, Operation};
 use iceoryx2_table::rows::{RowState, StoredRow};
 use iceoryx2_table::segments::StoredSegment;
 use iceoryx2_table::table::stored::StoredWorld;
@@ -25,8 +25,8 @@ pub fn next(
     for ((participant, hash), _) in from_key(from.phases_held(), &reached.place) {
         reached.place = (*participant, *hash);
         if let Participant::Node(node) = participant {
-            if let Some(deed) = deed(alloc, from, to, *node, hash)? {
-                return Ok(Some(entry(*node, *hash, deed)));
+            if let Some(operation) = operation(alloc, from, to, *node, hash)? {
+                return Ok(Some(entry(*node, *hash, operation)));
             }
         }
     }
@@ -34,13 +34,13 @@ pub fn next(
 }
 
 /// What the node does next at the service, or `None` where it is as far as it comes.
-pub fn deed(
+pub fn operation(
     alloc: Global,
     from: &StoredWorld,
     to: &StoredWorld,
     node: u64,
     hash: &ServiceHash,
-) -> Result<Option<Deed>, AllocError> {
+) -> Result<Option<Operation>, AllocError> {
     match from.phase(node, hash) {
         Phase::Locked(number) | Phase::Made(number) => {
             creating(alloc, from, to, node, hash, number)
@@ -60,7 +60,7 @@ fn creating(
     node: u64,
     hash: &ServiceHash,
     number: u64,
-) -> Result<Option<Deed>, AllocError> {
+) -> Result<Option<Operation>, AllocError> {
     if let Some(row) = to.row(hash) {
         match row.state() {
             RowState::Locked(locked) => {
@@ -85,7 +85,7 @@ fn holding(
     node: u64,
     hash: &ServiceHash,
     number: u64,
-) -> Option<Deed> {
+) -> Option<Operation> {
     match to.segment(hash) {
         None => clearing(from, hash),
         Some(segment) => {
@@ -105,16 +105,16 @@ fn publishing(
     hash: &ServiceHash,
     row: &StoredRow,
     number: u64,
-) -> Result<Option<Deed>, AllocError> {
+) -> Result<Option<Operation>, AllocError> {
     let capacity = match to.segment(hash) {
         Some(segment) => segment.capacity(),
         None => capacity_of(alloc, row)?,
     };
-    if let Some(deed) = making(from, hash, number, capacity) {
-        return Ok(Some(deed));
+    if let Some(operation) = making(from, hash, number, capacity) {
+        return Ok(Some(operation));
     }
     let bytes = FormBytes::new(row.bytes().copy()?);
-    Ok(Some(Deed::Publish { number, bytes }))
+    Ok(Some(Operation::Publish { number, bytes }))
 }
 
 // For how many nodes the service is described. Of what isn't a description for none, which no segment is made for.
@@ -133,17 +133,17 @@ fn giving_up(
     to: &StoredWorld,
     hash: &ServiceHash,
     number: u64,
-) -> Result<Option<Deed>, AllocError> {
+) -> Result<Option<Operation>, AllocError> {
     match to.segment(hash) {
-        None => Ok(clearing(from, hash).or(Some(Deed::RemoveDescription))),
+        None => Ok(clearing(from, hash).or(Some(Operation::RemoveDescription))),
         Some(segment) => {
             if segment.number() == number {
                 return leaving_alone(alloc, from, hash, segment);
             }
             if number_of(from.segment(hash)) == Some(segment.number()) {
-                return Ok(Some(Deed::RemoveDescription));
+                return Ok(Some(Operation::RemoveDescription));
             }
-            Ok(clearing(from, hash).or(Some(Deed::RemoveDescription)))
+            Ok(clearing(from, hash).or(Some(Operation::RemoveDescription)))
         }
     }
 }
@@ -155,17 +155,17 @@ fn leaving_alone(
     from: &StoredWorld,
     hash: &ServiceHash,
     segment: &StoredSegment,
-) -> Result<Option<Deed>, AllocError> {
+) -> Result<Option<Operation>, AllocError> {
     let number = segment.number();
-    if let Some(deed) = making(from, hash, number, segment.capacity()) {
-        return Ok(Some(deed));
+    if let Some(operation) = making(from, hash, number, segment.capacity()) {
+        return Ok(Some(operation));
     }
     if !segment.is_marked() {
-        return Ok(Some(Deed::RemoveDescription));
+        return Ok(Some(Operation::RemoveDescription));
     }
     let description = any_description(alloc, *hash, segment.capacity())?;
     let bytes = FormBytes::new(bytes::encode(alloc, &description)?);
-    Ok(Some(Deed::Publish { number, bytes }))
+    Ok(Some(Operation::Publish { number, bytes }))
 }
 
 // Events under the hash for so many nodes.
@@ -195,22 +195,27 @@ fn any_description(
 }
 
 // Its segment for so many nodes is made, after another one is removed. `None` where it stands.
-fn making(from: &StoredWorld, hash: &ServiceHash, number: u64, max_nodes: u64) -> Option<Deed> {
+fn making(
+    from: &StoredWorld,
+    hash: &ServiceHash,
+    number: u64,
+    max_nodes: u64,
+) -> Option<Operation> {
     match from.segment(hash) {
-        None => Some(Deed::MakeSegment { number, max_nodes }),
+        None => Some(Operation::MakeSegment { number, max_nodes }),
         Some(segment) => {
             if segment.number() == number && segment.capacity() == max_nodes {
                 return None;
             }
-            Some(Deed::RemoveSegment)
+            Some(Operation::RemoveSegment)
         }
     }
 }
 
 // The segment is removed, where one stands.
-fn clearing(from: &StoredWorld, hash: &ServiceHash) -> Option<Deed> {
+fn clearing(from: &StoredWorld, hash: &ServiceHash) -> Option<Operation> {
     match from.segment(hash) {
-        Some(_) => Some(Deed::RemoveSegment),
+        Some(_) => Some(Operation::RemoveSegment),
         None => None,
     }
 }
@@ -230,7 +235,7 @@ fn visiting(
     node: u64,
     hash: &ServiceHash,
     number: u64,
-) -> Option<Deed> {
+) -> Option<Operation> {
     if is_published(to, hash, number) {
         return None;
     }
@@ -239,27 +244,27 @@ fn visiting(
         return None;
     }
     let ticket = number;
-    Some(Deed::Release { ticket, number })
+    Some(Operation::Release { ticket, number })
 }
 
 // Who was the last one to leave.
-fn leaving(to: &StoredWorld, node: u64, hash: &ServiceHash, number: u64) -> Option<Deed> {
+fn leaving(to: &StoredWorld, node: u64, hash: &ServiceHash, number: u64) -> Option<Operation> {
     if is_published(to, hash, number) {
         return match to.phase(node, hash) {
-            Phase::Cleared(_) => Some(Deed::RemoveSegment),
+            Phase::Cleared(_) => Some(Operation::RemoveSegment),
             _ => None,
         };
     }
     if number_of(to.segment(hash)) == Some(number) {
-        return Some(Deed::RemoveDescription);
+        return Some(Operation::RemoveDescription);
     }
-    Some(Deed::RemoveSegment)
+    Some(Operation::RemoveSegment)
 }
 
 // Who has removed the segment too.
-fn cleared(to: &StoredWorld, hash: &ServiceHash, number: u64) -> Option<Deed> {
+fn cleared(to: &StoredWorld, hash: &ServiceHash, number: u64) -> Option<Operation> {
     if is_published(to, hash, number) {
         return None;
     }
-    Some(Deed::RemoveDescription)
+    Some(Operation::RemoveDescription)
 }

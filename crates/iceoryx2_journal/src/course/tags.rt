@@ -1,7 +1,7 @@
 //! Which tags are removed and made.
 
 use super::{Reached, entry, from_key};
-use iceoryx2_log::entry::{Deed, Entry};
+use iceoryx2_log::entry::{Entry, Operation};
 use iceoryx2_table::table::stored::StoredWorld;
 
 /// The next one that the later world doesn't have.
@@ -9,7 +9,7 @@ pub fn to_remove(reached: &mut Reached, from: &StoredWorld, to: &StoredWorld) ->
     for ((node, hash), _) in from_key(from.tags_held(), &reached.tag) {
         reached.tag = (*node, *hash);
         if !to.has_tag(*node, hash) {
-            return Some(entry(*node, *hash, Deed::RemoveTag));
+            return Some(entry(*node, *hash, Operation::RemoveTag));
         }
     }
     None
@@ -20,7 +20,7 @@ pub fn to_make(reached: &mut Reached, from: &StoredWorld, to: &StoredWorld) -> O
     for ((node, hash), _) in from_key(to.tags_held(), &reached.tag) {
         reached.tag = (*node, *hash);
         if !from.has_tag(*node, hash) {
-            return Some(entry(*node, *hash, Deed::MakeTag));
+            return Some(entry(*node, *hash, Operation::MakeTag));
         }
     }
     None

@@ -18,7 +18,7 @@ impl<L: Log> Storage for Journal<L> {
         if !self.begin_look(true, hash) {
             return Existence::Fault;
         }
-        self.pen.log.let_go();
+        self.recorder.log.let_go();
         self.world.exists(hash)
     }
 
@@ -26,7 +26,7 @@ impl<L: Log> Storage for Journal<L> {
         if !self.begin_look_as(node, hash) {
             return Err(FetchError::OpenFault);
         }
-        self.pen.log.let_go();
+        self.recorder.log.let_go();
         self.world.fetch(node, hash)
     }
 
@@ -34,7 +34,7 @@ impl<L: Log> Storage for Journal<L> {
         if !self.begin_as(node) {
             return false;
         }
-        self.pen.log.let_go();
+        self.recorder.log.let_go();
         self.world.counts(node, hash)
     }
 
@@ -42,21 +42,21 @@ impl<L: Log> Storage for Journal<L> {
         if !self.begin_as(node) {
             return Err(TagError::Fault);
         }
-        parts::make_tag(&mut self.world, &mut self.pen, node, hash)
+        parts::make_tag(&mut self.world, &mut self.recorder, node, hash)
     }
 
     fn remove_tag(&mut self, node: u64, hash: &ServiceHash) -> Result<(), RemoveError> {
         if !self.begin_as(node) {
             return Err(RemoveError::Other);
         }
-        parts::remove_tag(&mut self.world, &mut self.pen, node, hash)
+        parts::remove_tag(&mut self.world, &mut self.recorder, node, hash)
     }
 
     fn lock(&mut self, node: u64, hash: &ServiceHash) -> Result<u64, LockError> {
         if !self.begin_look_as(node, hash) {
             return Err(LockError::Other);
         }
-        parts::lock(&mut self.world, &mut self.pen, node, hash)
+        parts::lock(&mut self.world, &mut self.recorder, node, hash)
     }
 
     fn make_segment(
@@ -71,7 +71,7 @@ impl<L: Log> Storage for Journal<L> {
         }
         parts::make_segment(
             &mut self.world,
-            &mut self.pen,
+            &mut self.recorder,
             node,
             hash,
             number,
@@ -83,14 +83,14 @@ impl<L: Log> Storage for Journal<L> {
         if !self.begin_as(node) {
             return Err(RemoveError::Other);
         }
-        parts::remove_segment(&mut self.world, &mut self.pen, node, hash)
+        parts::remove_segment(&mut self.world, &mut self.recorder, node, hash)
     }
 
     fn remove_description(&mut self, node: u64, hash: &ServiceHash) -> Result<(), RemoveError> {
         if !self.begin_as(node) {
             return Err(RemoveError::Other);
         }
-        parts::remove_description(&mut self.world, &mut self.pen, node, hash)
+        parts::remove_description(&mut self.world, &mut self.recorder, node, hash)
     }
 
     /// `Other` too where the description's bytes find no memory.
@@ -108,7 +108,7 @@ impl<L: Log> Storage for Journal<L> {
         parts::publish(
             alloc,
             &mut self.world,
-            &mut self.pen,
+            &mut self.recorder,
             node,
             hash,
             number,
@@ -125,7 +125,7 @@ impl<L: Log> Storage for Journal<L> {
         if !self.begin_as(node) {
             return Err(OpenSegmentError::Failed);
         }
-        parts::open_segment(&mut self.world, &mut self.pen, node, hash, number)
+        parts::open_segment(&mut self.world, &mut self.recorder, node, hash, number)
     }
 
     fn release(
@@ -138,6 +138,13 @@ impl<L: Log> Storage for Journal<L> {
         if !self.begin_as(node) {
             return Err(ReleaseError::NoSuchTicket);
         }
-        parts::release(&mut self.world, &mut self.pen, ticket, node, hash, number)
+        parts::release(
+            &mut self.world,
+            &mut self.recorder,
+            ticket,
+            node,
+            hash,
+            number,
+        )
     }
 }

@@ -41,10 +41,10 @@ impl<L: Log> Journal<L> {
             return Err(AdoptError::Refused);
         }
         let Ok(_) = self.nodes.push(node) else {
-            self.pen.log.let_go();
+            self.recorder.log.let_go();
             return Err(AdoptError::OutOfMemory);
         };
-        self.pen.log.let_go();
+        self.recorder.log.let_go();
         Ok(())
     }
 
@@ -92,10 +92,10 @@ impl<L: Log> Journal<L> {
             return Step::Refused;
         }
         let Some(held) = self.world.holding(node) else {
-            self.pen.log.let_go();
+            self.recorder.log.let_go();
             return Step::Finished;
         };
-        step_of(give_back(&mut self.world, &mut self.pen, node, held))
+        step_of(give_back(&mut self.world, &mut self.recorder, node, held))
     }
 
     /// Gives back what an own node has besides the factories with these tickets, by accesses of its own: each other

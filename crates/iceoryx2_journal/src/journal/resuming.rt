@@ -7,7 +7,7 @@ ghost use Rattle.iceoryx2_journal.specs.Journal.{Begins, KeepsHold, Resumes};
 ghost use Rattle.iceoryx2_journal.specs.Replay.{Lives};
 
 use super::Journal;
-use crate::pen::Pen;
+use crate::log_recorder::LogRecorder;
 use iceoryx2_log::log::Log;
 use std::mem;
 
@@ -23,7 +23,7 @@ impl<L: Log + Drop> Journal<L> {
         ensures nodes { self.new.nodes ≡ self.old.nodes }
         ensures lives { L.contents log ≡ L.contents self.old.log → Lives L.contents self.old self.new }
     {
-        self.pen = Pen { log, entry: None };
+        self.recorder = LogRecorder { log, entry: None };
         let none = Vec::new(*self.nodes.allocator());
         let own = mem::replace(&mut self.nodes, none);
         let is_all = self.catch_up_plainly();
@@ -37,7 +37,7 @@ impl<L: Log + Drop> Journal<L> {
         ensures hold { KeepsHold L.held self.old self.new }
     {
         if self.begin_reading() {
-            self.pen.log.let_go();
+            self.recorder.log.let_go();
             return true;
         }
         false

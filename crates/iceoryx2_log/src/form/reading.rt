@@ -6,16 +6,16 @@
 ghost use Rattle.std.specs.Prelude.{◌≡◌, ◌<◌, ◌≤◌, ◌^◌, length, bytes_eq, IfOk, OnErr, IfSome, IsSome};
 ghost use Rattle.std.specs.Int.{w32, w64};
 ghost use Rattle.iceoryx2_data.specs.PartReading.{number_at, bytes_at};
-ghost use Rattle.iceoryx2_log.specs.declared.entry.Deed.TheVariants as deed;
+ghost use Rattle.iceoryx2_log.specs.declared.entry.Operation.TheVariants as operation;
 ghost use Rattle.iceoryx2_log.specs.Form.{sum_of as sum_at};
 ghost use Rattle.iceoryx2_log.specs.Reading.{IsPart, IsReadBy};
-ghost use Rattle.iceoryx2_log.specs.Reading.{none_in, number_in, numbers_in, plain_deed_in, publish_in};
-ghost use Rattle.iceoryx2_log.specs.Reading.{deed_in, kind_at, front_at, body_in};
+ghost use Rattle.iceoryx2_log.specs.Reading.{none_in, number_in, numbers_in, plain_operation_in, publish_in};
+ghost use Rattle.iceoryx2_log.specs.Reading.{operation_in, kind_at, front_at, body_in};
 ghost use Rattle.iceoryx2_log.specs.Reading.{header_at, summed_at, sealed_at, entry_at, is_cut_short};
 
 use super::writing::sum_of;
 use super::{HEADER_LENGTH, MAX_BODY_LENGTH, MIN_BODY_LENGTH, SUM_LENGTH};
-use crate::entry::{Deed, Entry, FormBytes};
+use crate::entry::{Entry, FormBytes, Operation};
 use iceoryx2_description::description::{HASH_LENGTH, ServiceHash};
 use std::alloc::{AllocError, Global};
 use std::error::Error;
@@ -87,85 +87,85 @@ fn bytes_of(len: usize, bytes: &[u8]) -> Option<(&[u8], &[u8])>
     Some(bytes.split_at(len))
 }
 
-/// A deed that has no more numbers, where no bytes are left.
+/// A operation that has no more numbers, where no bytes are left.
 #[tactic(auto, unfolding(crate::specs::Reading::none_in))]
-fn none_of(deed: Deed, bytes: &[u8]) -> Option<Deed>
-    ensures { IsPart (λ d. d) result (none_in deed bytes.now) }
+fn none_of(operation: Operation, bytes: &[u8]) -> Option<Operation>
+    ensures { IsPart (λ d. d) result (none_in operation bytes.now) }
 {
     match bytes {
-        [] => Some(deed),
+        [] => Some(operation),
         [_, ..] => None,
     }
 }
 
 /// A number, which is all of the bytes.
 #[tactic(auto, unfolding(crate::specs::Reading::number_in))]
-fn lock_of(bytes: &[u8]) -> Option<Deed>
-    ensures { IsPart (λ d. d) result (number_in deed.Lock bytes.now) }
+fn lock_of(bytes: &[u8]) -> Option<Operation>
+    ensures { IsPart (λ d. d) result (number_in operation.Lock bytes.now) }
 {
     let (number, rest) = u64_at(bytes)?;
-    none_of(Deed::Lock { number }, rest)
+    none_of(Operation::Lock { number }, rest)
 }
 
 #[tactic(auto, unfolding(crate::specs::Reading::number_in))]
-fn spend_of(bytes: &[u8]) -> Option<Deed>
-    ensures { IsPart (λ d. d) result (number_in deed.Spend bytes.now) }
+fn spend_of(bytes: &[u8]) -> Option<Operation>
+    ensures { IsPart (λ d. d) result (number_in operation.Spend bytes.now) }
 {
     let (number, rest) = u64_at(bytes)?;
-    none_of(Deed::Spend { number }, rest)
+    none_of(Operation::Spend { number }, rest)
 }
 
 /// Two numbers, which are all of the bytes.
 #[tactic(auto, unfolding(crate::specs::Reading::number_in, crate::specs::Reading::numbers_in))]
-fn make_segment_of(bytes: &[u8]) -> Option<Deed>
-    ensures { IsPart (λ d. d) result (numbers_in deed.MakeSegment bytes.now) }
+fn make_segment_of(bytes: &[u8]) -> Option<Operation>
+    ensures { IsPart (λ d. d) result (numbers_in operation.MakeSegment bytes.now) }
 {
     let (number, rest) = u64_at(bytes)?;
     let (max_nodes, rest) = u64_at(rest)?;
-    none_of(Deed::MakeSegment { number, max_nodes }, rest)
+    none_of(Operation::MakeSegment { number, max_nodes }, rest)
 }
 
 #[tactic(auto, unfolding(crate::specs::Reading::number_in, crate::specs::Reading::numbers_in))]
-fn open_segment_of(bytes: &[u8]) -> Option<Deed>
-    ensures { IsPart (λ d. d) result (numbers_in deed.OpenSegment bytes.now) }
+fn open_segment_of(bytes: &[u8]) -> Option<Operation>
+    ensures { IsPart (λ d. d) result (numbers_in operation.OpenSegment bytes.now) }
 {
     let (number, rest) = u64_at(bytes)?;
     let (ticket, rest) = u64_at(rest)?;
-    none_of(Deed::OpenSegment { number, ticket }, rest)
+    none_of(Operation::OpenSegment { number, ticket }, rest)
 }
 
 #[tactic(auto, unfolding(crate::specs::Reading::number_in, crate::specs::Reading::numbers_in))]
-fn release_of(bytes: &[u8]) -> Option<Deed>
-    ensures { IsPart (λ d. d) result (numbers_in deed.Release bytes.now) }
+fn release_of(bytes: &[u8]) -> Option<Operation>
+    ensures { IsPart (λ d. d) result (numbers_in operation.Release bytes.now) }
 {
     let (ticket, rest) = u64_at(bytes)?;
     let (number, rest) = u64_at(rest)?;
-    none_of(Deed::Release { ticket, number }, rest)
+    none_of(Operation::Release { ticket, number }, rest)
 }
 
-/// The deed of this kind, which is not `Publish`, and whose numbers are all of the bytes.
-#[tactic(auto, unfolding(crate::specs::Reading::plain_deed_in))]
-fn plain_deed_of(kind: u8, bytes: &[u8]) -> Option<Deed>
-    ensures { IsPart (λ d. d) result (plain_deed_in kind bytes.now) }
+/// The operation of this kind, which is not `Publish`, and whose numbers are all of the bytes.
+#[tactic(auto, unfolding(crate::specs::Reading::plain_operation_in))]
+fn plain_operation_of(kind: u8, bytes: &[u8]) -> Option<Operation>
+    ensures { IsPart (λ d. d) result (plain_operation_in kind bytes.now) }
 {
     match kind {
-        1 => none_of(Deed::MakeTag, bytes),
-        2 => none_of(Deed::RemoveTag, bytes),
+        1 => none_of(Operation::MakeTag, bytes),
+        2 => none_of(Operation::RemoveTag, bytes),
         3 => lock_of(bytes),
         4 => make_segment_of(bytes),
-        5 => none_of(Deed::RemoveSegment, bytes),
-        6 => none_of(Deed::RemoveDescription, bytes),
+        5 => none_of(Operation::RemoveSegment, bytes),
+        6 => none_of(Operation::RemoveDescription, bytes),
         8 => open_segment_of(bytes),
         9 => release_of(bytes),
         10 => spend_of(bytes),
-        11 => none_of(Deed::Moved, bytes),
+        11 => none_of(Operation::Moved, bytes),
         _ => None,
     }
 }
 
 /// A number, and the bytes of a description, which are the rest.
 #[tactic(auto, unfolding(crate::specs::Reading::publish_in))]
-fn publish_of(alloc: Global, bytes: &[u8]) -> Result<Option<Deed>, AllocError>
+fn publish_of(alloc: Global, bytes: &[u8]) -> Result<Option<Operation>, AllocError>
     ensures read { IfOk result (λ found. IsPart (λ d. d) found (publish_in bytes.now)) }
     ensures err { OnErr result (IsSome (publish_in bytes.now)) }
 {
@@ -174,21 +174,21 @@ fn publish_of(alloc: Global, bytes: &[u8]) -> Result<Option<Deed>, AllocError>
         Some((number, rest)) => {
             let copy = Vec::from_slice(alloc, rest)?;
             let bytes = FormBytes::new(copy);
-            Ok(Some(Deed::Publish { number, bytes }))
+            Ok(Some(Operation::Publish { number, bytes }))
         }
     }
 }
 
-/// The deed of this kind, whose numbers and bytes are all of the bytes.
-#[tactic(auto, unfolding(crate::specs::Reading::deed_in))]
-fn deed_of(alloc: Global, kind: u8, bytes: &[u8]) -> Result<Option<Deed>, AllocError>
-    ensures read { IfOk result (λ found. IsPart (λ d. d) found (deed_in kind bytes.now)) }
-    ensures err { OnErr result (IsSome (deed_in kind bytes.now)) }
+/// The operation of this kind, whose numbers and bytes are all of the bytes.
+#[tactic(auto, unfolding(crate::specs::Reading::operation_in))]
+fn operation_of(alloc: Global, kind: u8, bytes: &[u8]) -> Result<Option<Operation>, AllocError>
+    ensures read { IfOk result (λ found. IsPart (λ d. d) found (operation_in kind bytes.now)) }
+    ensures err { OnErr result (IsSome (operation_in kind bytes.now)) }
 {
     if kind == 7 {
         publish_of(alloc, bytes)
     } else {
-        Ok(plain_deed_of(kind, bytes))
+        Ok(plain_operation_of(kind, bytes))
     }
 }
 
@@ -211,7 +211,7 @@ fn hash_of(bytes: &[u8]) -> Option<(ServiceHash, &[u8])>
     Some((ServiceHash(hash), rest))
 }
 
-/// What stands before a deed's numbers: its kind, its node and its hash.
+/// What stands before a operation's numbers: its kind, its node and its hash.
 #[tactic(auto, unfolding(crate::specs::Reading::front_at))]
 fn front_of(bytes: &[u8]) -> Option<(u8, u64, ServiceHash, &[u8])>
     ensures { IsPart (λ x. ((x.0, (x.1, x.2.0)), x.3.now)) result (front_at bytes.now) }
@@ -230,8 +230,12 @@ fn body_of(alloc: Global, bytes: &[u8]) -> Result<Option<Entry>, AllocError>
 {
     match front_of(bytes) {
         None => Ok(None),
-        Some((kind, node, hash, rest)) => match deed_of(alloc, kind, rest) {
-            Ok(Some(deed)) => Ok(Some(Entry { node, hash, deed })),
+        Some((kind, node, hash, rest)) => match operation_of(alloc, kind, rest) {
+            Ok(Some(operation)) => Ok(Some(Entry {
+                node,
+                hash,
+                operation,
+            })),
             Ok(None) => Ok(None),
             Err(error) => Err(error),
         },

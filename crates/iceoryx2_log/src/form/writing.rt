@@ -6,7 +6,7 @@ ghost use Rattle.iceoryx2_data.specs.PartForm as part;
 ghost use Rattle.iceoryx2_log.specs.Form as form;
 
 use super::{HEADER_LENGTH, MAX_BODY_LENGTH, MIN_BODY_LENGTH, SUM_LENGTH};
-use crate::entry::{Deed, Entry};
+use crate::entry::{Entry, Operation};
 use sha1::Sha1;
 use std::alloc::{AllocError, Global};
 use std::error::Error;
@@ -51,38 +51,41 @@ fn put_number(out: &mut Vec<u8>, number: u64) -> Result<(), AllocError>
     out.extend_from_slice(&number.to_be_bytes())
 }
 
-/// The byte of a deed's kind.
-fn kind(deed: &Deed) -> u8
-    ensures { result ≡ form.kind deed.now }
+/// The byte of a operation's kind.
+fn kind(operation: &Operation) -> u8
+    ensures { result ≡ form.kind operation.now }
 {
-    match deed {
-        Deed::MakeTag => 1,
-        Deed::RemoveTag => 2,
-        Deed::Lock { .. } => 3,
-        Deed::MakeSegment { .. } => 4,
-        Deed::RemoveSegment => 5,
-        Deed::RemoveDescription => 6,
-        Deed::Publish { .. } => 7,
-        Deed::OpenSegment { .. } => 8,
-        Deed::Release { .. } => 9,
-        Deed::Spend { .. } => 10,
-        Deed::Moved => 11,
+    match operation {
+        Operation::MakeTag => 1,
+        Operation::RemoveTag => 2,
+        Operation::Lock { .. } => 3,
+        Operation::MakeSegment { .. } => 4,
+        Operation::RemoveSegment => 5,
+        Operation::RemoveDescription => 6,
+        Operation::Publish { .. } => 7,
+        Operation::OpenSegment { .. } => 8,
+        Operation::Release { .. } => 9,
+        Operation::Spend { .. } => 10,
+        Operation::Moved => 11,
     }
 }
 
-/// The deed's numbers in order, and a description's bytes.
-fn put_details(out: &mut Vec<u8>, deed: &Deed) -> Result<(), AllocError>
-    ensures { OnOk result (out.new.items ≡ out.old.items ++ form.details deed.now) }
+/// The operation's numbers in order, and a description's bytes.
+fn put_details(out: &mut Vec<u8>, operation: &Operation) -> Result<(), AllocError>
+    ensures { OnOk result (out.new.items ≡ out.old.items ++ form.details operation.now) }
 {
-    match deed {
-        Deed::MakeTag | Deed::RemoveTag | Deed::RemoveSegment | Deed::RemoveDescription => Ok(()),
-        Deed::Moved => Ok(()),
-        Deed::Lock { number } => put_number(out, *number),
-        Deed::Spend { number } => put_number(out, *number),
-        Deed::MakeSegment { number, max_nodes } => put_two(out, *number, *max_nodes),
-        Deed::Publish { number, bytes } => put_bytes(out, *number, bytes.as_slice()),
-        Deed::OpenSegment { number, ticket } => put_two(out, *number, *ticket),
-        Deed::Release { ticket, number } => put_two(out, *ticket, *number),
+    match operation {
+        Operation::MakeTag
+        | Operation::RemoveTag
+        | Operation::RemoveSegment
+        | Operation::RemoveDescription => Ok(()),
+        Operation::Moved => Ok(()),
+        Operation::Lock { number } => put_number(out, *number),
+        Operation::Spend { number } => put_number(out, *number),
+        Operation::MakeSegment { number, max_nodes } => put_two(out, *number, *max_nodes),
+        Operation::Publish { number, bytes } => put_bytes(out, *number, bytes.as_slice()),
+        Operation::OpenSegment { number, ticket } => put_two(out, *number, *ticket),
+        Operation::Release { ticket, number } => put_two(out, *ticket, *number),
     }
 }
 
@@ -100,34 +103,34 @@ fn put_bytes(out: &mut Vec<u8>, number: u64, bytes: &[u8]) -> Result<(), AllocEr
     out.extend_from_slice(bytes)
 }
 
-/// The kind, the node, the hash, and the deed's details.
+/// The kind, the node, the hash, and the operation's details.
 fn put_body(out: &mut Vec<u8>, entry: &Entry) -> Result<(), AllocError>
     ensures { OnOk result (out.new.items ≡ out.old.items ++ form.body entry.now) }
 {
-    out.push(kind(&entry.deed))?;
+    out.push(kind(&entry.operation))?;
     put_number(out, entry.node)?;
     out.extend_from_slice(entry.hash.as_bytes())?;
-    put_details(out, &entry.deed)
+    put_details(out, &entry.operation)
 }
 
-/// Whether a body with this deed is longer than the longest.
-fn is_too_long(deed: &Deed) -> bool
-    ensures { IsTrue result ↔ (MAX_BODY_LENGTH < MIN_BODY_LENGTH + length (form.details deed.now)) }
+/// Whether a body with this operation is longer than the longest.
+fn is_too_long(operation: &Operation) -> bool
+    ensures { IsTrue result ↔ (MAX_BODY_LENGTH < MIN_BODY_LENGTH + length (form.details operation.now)) }
 {
-    match deed {
-        Deed::Publish { bytes, .. } => {
+    match operation {
+        Operation::Publish { bytes, .. } => {
             MAX_BODY_LENGTH - (MIN_BODY_LENGTH + 8) < bytes.as_slice().len()
         }
-        Deed::MakeTag => false,
-        Deed::RemoveTag => false,
-        Deed::Lock { .. } => false,
-        Deed::MakeSegment { .. } => false,
-        Deed::RemoveSegment => false,
-        Deed::RemoveDescription => false,
-        Deed::OpenSegment { .. } => false,
-        Deed::Release { .. } => false,
-        Deed::Spend { .. } => false,
-        Deed::Moved => false,
+        Operation::MakeTag => false,
+        Operation::RemoveTag => false,
+        Operation::Lock { .. } => false,
+        Operation::MakeSegment { .. } => false,
+        Operation::RemoveSegment => false,
+        Operation::RemoveDescription => false,
+        Operation::OpenSegment { .. } => false,
+        Operation::Release { .. } => false,
+        Operation::Spend { .. } => false,
+        Operation::Moved => false,
     }
 }
 
@@ -139,29 +142,32 @@ fn are_bytes(bytes: &[u8])
 }
 
 /// Its numbers are within the limits of their types.
-fn deed_fits(deed: &Deed)
-    ensures { form.IsDeed deed.now }
+fn operation_fits(operation: &Operation)
+    ensures { form.IsOperation operation.now }
 {
-    match deed {
-        Deed::MakeTag | Deed::RemoveTag | Deed::RemoveSegment | Deed::RemoveDescription => {}
-        Deed::Moved => {}
-        Deed::Lock { number } => {
+    match operation {
+        Operation::MakeTag
+        | Operation::RemoveTag
+        | Operation::RemoveSegment
+        | Operation::RemoveDescription => {}
+        Operation::Moved => {}
+        Operation::Lock { number } => {
             let _number = *number;
         }
-        Deed::Spend { number } => {
+        Operation::Spend { number } => {
             let _number = *number;
         }
-        Deed::MakeSegment { number, max_nodes } => {
+        Operation::MakeSegment { number, max_nodes } => {
             let _numbers = (*number, *max_nodes);
         }
-        Deed::Publish { number, bytes } => {
+        Operation::Publish { number, bytes } => {
             let _number = *number;
             are_bytes(bytes.as_slice());
         }
-        Deed::OpenSegment { number, ticket } => {
+        Operation::OpenSegment { number, ticket } => {
             let _numbers = (*number, *ticket);
         }
-        Deed::Release { ticket, number } => {
+        Operation::Release { ticket, number } => {
             let _numbers = (*ticket, *number);
         }
     }
@@ -173,7 +179,7 @@ fn fits(entry: &Entry)
 {
     let _node = entry.node;
     let _hash = entry.hash.as_bytes();
-    deed_fits(&entry.deed);
+    operation_fits(&entry.operation);
 }
 
 /// The first bytes of the SHA-1 of length and body.
@@ -209,7 +215,7 @@ pub fn encode(alloc: Global, entry: &Entry) -> Result<Vec<u8>, EncodeError>
     ensures too_long { (result ≡ Err EncodeError.TooLong) ↔ (MAX_BODY_LENGTH < length (form.body entry.now)) }
 {
     fits(entry);
-    if is_too_long(&entry.deed) {
+    if is_too_long(&entry.operation) {
         return Err(EncodeError::TooLong);
     }
     let mut body = Vec::new(alloc);

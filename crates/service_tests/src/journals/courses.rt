@@ -5,14 +5,14 @@ use crate::journals::support::{assert_same, copies, draw, granted, push};
 use iceoryx2_description::description::{HASH_LENGTH, ServiceHash};
 use iceoryx2_journal::course::Course;
 use iceoryx2_journal::follow::follow;
-use iceoryx2_log::entry::{Deed, Entry, FormBytes};
+use iceoryx2_log::entry::{Entry, FormBytes, Operation};
 use iceoryx2_table::rows::RowState;
 use iceoryx2_table::table::stored::StoredWorld;
 use iceoryx2_world::world::Phase;
 use std::alloc::Global;
 use std::process::Abort;
 
-/// The nodes whose deeds are drawn.
+/// The nodes whose operations are drawn.
 const NODES: u64 = 5;
 
 /// Who spends numbers in a history.
@@ -24,8 +24,8 @@ const SPARE: u64 = 9;
 /// The hash under which numbers are spent.
 const ZEROS: ServiceHash = ServiceHash([0; HASH_LENGTH]);
 
-/// How many deeds are drawn at most before the first world, and between the two.
-const DEEDS: u64 = 60;
+/// How many operations are drawn at most before the first world, and between the two.
+const OPERATIONS: u64 = 60;
 
 /// More entries than any course has here.
 const LONGEST: usize = 1000;
@@ -50,12 +50,12 @@ fn row_number(world: &StoredWorld, hash: &ServiceHash) -> Option<u64> {
 }
 
 /// What somebody does who has nothing there: it locks the service, or opens it.
-fn beginning(world: &StoredWorld, hash: &ServiceHash) -> Deed {
+fn beginning(world: &StoredWorld, hash: &ServiceHash) -> Operation {
     match row_number(world, hash) {
-        None => Deed::Lock {
+        None => Operation::Lock {
             number: world.counter(),
         },
-        Some(number) => Deed::OpenSegment {
+        Some(number) => Operation::OpenSegment {
             number,
             ticket: world.counter(),
         },
@@ -68,9 +68,9 @@ fn publication(
     forms: &Forms,
     subject: Subject,
     (number, nodes): (u64, u64),
-) -> Deed {
+) -> Operation {
     let bytes = Vec::from_slice(forms.alloc, forms.bytes(rt, subject, nodes));
-    Deed::Publish {
+    Operation::Publish {
         number,
         bytes: FormBytes::new(granted(rt, bytes)),
     }
@@ -88,30 +88,30 @@ fn ticket_of(world: &StoredWorld, node: u64, hash: &ServiceHash, last: bool) -> 
 }
 
 /// Draws what a node does that is so far with a service.
-fn drawn_deed(
+fn drawn_operation(
     rt: &impl Abort,
     forms: &Forms,
     seed: &mut u64,
     world: &StoredWorld,
     node: u64,
     subject: Subject,
-) -> Deed {
+) -> Operation {
     let hash = &subject.hash;
     let chance = draw(seed) % 100;
     if chance < 8 {
         return drawn(rt, seed, &[true, false])
-            .then_some(Deed::MakeTag)
-            .unwrap_or(Deed::RemoveTag);
+            .then_some(Operation::MakeTag)
+            .unwrap_or(Operation::RemoveTag);
     }
     match world.phase(node, hash) {
         Phase::Idle | Phase::Read(_) => beginning(world, hash),
         Phase::Locked(number) => match chance {
-            0..55 => Deed::MakeSegment {
+            0..55 => Operation::MakeSegment {
                 number,
                 max_nodes: draw(seed) % 3 + 1,
             },
-            55..80 => Deed::RemoveSegment,
-            _ => Deed::RemoveDescription,
+            55..80 => Operation::RemoveSegment,
+            _ => Operation::RemoveDescription,
         },
         Phase::Made(number) => match chance {
             0..75 => {
@@ -121,19 +121,19 @@ fn drawn_deed(
                 };
                 publication(rt, forms, subject, (number, nodes))
             }
-            75..80 => Deed::RemoveSegment,
-            _ => Deed::RemoveDescription,
+            75..80 => Operation::RemoveSegment,
+            _ => Operation::RemoveDescription,
         },
         Phase::Joined(number, _) => match chance {
             0..35 => beginning(world, hash),
-            _ => Deed::Release {
+            _ => Operation::Release {
                 ticket: ticket_of(world, node, hash, draw(seed).is_multiple_of(2)),
                 number,
             },
         },
         _ => match chance {
-            0..50 => Deed::RemoveSegment,
-            _ => Deed::RemoveDescription,
+            0..50 => Operation::RemoveSegment,
+            _ => Operation::RemoveDescription,
         },
     }
 }
@@ -152,19 +152,19 @@ fn drawn_entry(
         return Entry {
             node: SPENDER,
             hash: ZEROS,
-            deed: Deed::Spend { number },
+            operation: Operation::Spend { number },
         };
     }
     let subject = drawn(rt, seed, &SUBJECTS);
-    let deed = drawn_deed(rt, forms, seed, world, node, subject);
+    let operation = drawn_operation(rt, forms, seed, world, node, subject);
     Entry {
         node,
         hash: subject.hash,
-        deed,
+        operation,
     }
 }
 
-/// Draws deeds by all nodes but one, and follows those that are granted.
+/// Draws operations by all nodes but one, and follows those that are granted.
 fn drawn_history(
     rt: &impl Abort,
     forms: &Forms,
@@ -173,7 +173,7 @@ fn drawn_history(
     idle: u64,
 ) -> Vec<Entry> {
     let mut entries = Vec::new(forms.alloc);
-    for _deed in 0..draw(seed) % DEEDS {
+    for _operation in 0..draw(seed) % OPERATIONS {
         let entry = drawn_entry(rt, forms, seed, world, idle);
         if follow(forms.alloc, world, &entry).is_ok() {
             push(rt, &mut entries, entry);

@@ -6,7 +6,7 @@ use iceoryx2_access::storage::{
 };
 use iceoryx2_data::bytes::encode;
 use iceoryx2_description::description::{ServiceHash, StaticConfig};
-use iceoryx2_log::entry::{Deed, Entry, FormBytes};
+use iceoryx2_log::entry::{Entry, FormBytes, Operation};
 use iceoryx2_table::table::{Act, Step};
 use iceoryx2_world::world::{Participant, Phase};
 use std::alloc::Global;
@@ -44,9 +44,13 @@ impl Recording {
     }
 
     /// Writes down what a node did.
-    fn write(&mut self, node: u64, hash: &ServiceHash, deed: Deed) {
+    fn write(&mut self, node: u64, hash: &ServiceHash, operation: Operation) {
         let hash = *hash;
-        let _answer = self.entries.push(Entry { node, hash, deed });
+        let _answer = self.entries.push(Entry {
+            node,
+            hash,
+            operation,
+        });
     }
 
     /// Makes the next batch, if one waits.
@@ -123,7 +127,7 @@ impl Recording {
     fn tagged(&mut self, node: u64, hash: &ServiceHash) -> Result<Tag, TagError> {
         let answer = self.table.make_tag(node, hash);
         if answer == Ok(Tag::Made) {
-            self.write(node, hash, Deed::MakeTag);
+            self.write(node, hash, Operation::MakeTag);
         }
         answer
     }
@@ -132,7 +136,7 @@ impl Recording {
         let had_one = Plain::has_tag(&self.table, node, hash);
         let answer = self.table.remove_tag(node, hash);
         if answer.is_ok() && had_one {
-            self.write(node, hash, Deed::RemoveTag);
+            self.write(node, hash, Operation::RemoveTag);
         }
         answer
     }
@@ -140,7 +144,7 @@ impl Recording {
     fn locked(&mut self, node: u64, hash: &ServiceHash) -> Result<u64, LockError> {
         let answer = self.table.lock(node, hash);
         if let Ok(number) = answer {
-            self.write(node, hash, Deed::Lock { number });
+            self.write(node, hash, Operation::Lock { number });
         }
         answer
     }
@@ -154,7 +158,7 @@ impl Recording {
     ) -> Result<(), MakeSegmentError> {
         let answer = self.table.make_segment(node, hash, number, max_nodes);
         if answer.is_ok() {
-            self.write(node, hash, Deed::MakeSegment { number, max_nodes });
+            self.write(node, hash, Operation::MakeSegment { number, max_nodes });
         }
         answer
     }
@@ -162,7 +166,7 @@ impl Recording {
     fn segment_removed(&mut self, node: u64, hash: &ServiceHash) -> Result<(), RemoveError> {
         let answer = self.table.remove_segment(node, hash);
         if answer.is_ok() {
-            self.write(node, hash, Deed::RemoveSegment);
+            self.write(node, hash, Operation::RemoveSegment);
         }
         answer
     }
@@ -170,7 +174,7 @@ impl Recording {
     fn description_removed(&mut self, node: u64, hash: &ServiceHash) -> Result<(), RemoveError> {
         let answer = self.table.remove_description(node, hash);
         if answer.is_ok() {
-            self.write(node, hash, Deed::RemoveDescription);
+            self.write(node, hash, Operation::RemoveDescription);
         }
         answer
     }
@@ -187,7 +191,7 @@ impl Recording {
             && let Ok(form) = encode(self.alloc, description)
         {
             let bytes = FormBytes::new(form);
-            self.write(node, hash, Deed::Publish { number, bytes });
+            self.write(node, hash, Operation::Publish { number, bytes });
         }
         answer
     }
@@ -200,7 +204,7 @@ impl Recording {
     ) -> Result<u64, OpenSegmentError> {
         let answer = self.table.open_segment(node, hash, number);
         if let Ok(ticket) = answer {
-            self.write(node, hash, Deed::OpenSegment { number, ticket });
+            self.write(node, hash, Operation::OpenSegment { number, ticket });
         }
         answer
     }
@@ -214,7 +218,7 @@ impl Recording {
     ) -> Result<Release, ReleaseError> {
         let answer = self.table.release(ticket, node, hash, number);
         if answer.is_ok() {
-            self.write(node, hash, Deed::Release { ticket, number });
+            self.write(node, hash, Operation::Release { ticket, number });
         }
         answer
     }

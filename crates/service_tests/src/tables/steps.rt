@@ -1,6 +1,6 @@
 //! Steps of peers that are drawn one by one, whether they are allowed or not: each body makes the same of them.
 
-use crate::drawn::{DEEDS, Forms, SUBJECTS, Subject, drawn, push_steps};
+use crate::drawn::{Forms, PEER_STEPS, SUBJECTS, Subject, drawn, push_steps};
 use crate::support::{assert_same, draw, granted, push};
 use iceoryx2_access::storage::{Existence, Storage};
 use iceoryx2_large_table::local::ManyLocal;
@@ -19,8 +19,8 @@ const BATCHES: u64 = 500;
 fn drawn_steps(rt: &impl Abort, forms: &Forms, subject: Subject, seed: &mut u64) -> Vec<Step> {
     let mut steps = Vec::new(forms.alloc);
     for _ in 0..8 {
-        let (peer, deed) = (draw(seed) % 3, drawn(rt, seed, DEEDS));
-        push_steps(rt, forms, subject, &mut steps, (peer, &[deed]));
+        let (peer, step) = (draw(seed) % 3, drawn(rt, seed, PEER_STEPS));
+        push_steps(rt, forms, subject, &mut steps, (peer, &[step]));
     }
     steps
 }

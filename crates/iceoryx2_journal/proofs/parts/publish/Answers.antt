@@ -1,7 +1,7 @@
 use Rattle.std.proofs.Common.{refl, ap, sym, subst}
 use Rattle.iceoryx2_data.specs.Form.{IsForm}
 use Rattle.iceoryx2_access.specs.Letter as letter
-use Rattle.iceoryx2_log.specs.declared.entry.Deed.TheVariants as deed
+use Rattle.iceoryx2_log.specs.declared.entry.Operation.TheVariants as operation
 use Rattle.iceoryx2_journal.specs.Logged.{declined}
 use Rattle.iceoryx2_journal.proofs.Entries.{publish_entry}
 use Rattle.iceoryx2_journal.proofs.Logged.{wrote}
@@ -13,7 +13,7 @@ returns-clause-logged g c =
     let h = c.args.hash.now in
     let n = c.args.number in
     let d = c.args.description.now in
-    wrote (record { node = i; hash = h; deed = deed.Publish n c.new.result }) refl refl
+    wrote (record { node = i; hash = h; operation = operation.Publish n c.new.result }) refl refl
     (λ p e. (
       d,
       subst (IsForm d) (sym c.new.ensures) c.in-Ok.ensures,

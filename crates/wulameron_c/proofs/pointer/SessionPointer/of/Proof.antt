@@ -22,7 +22,7 @@ use Rattle.std.specs.contracts.impls.GlobalAllocator.TheImpl.{ghosts}
 use Rattle.wulameron_c.proofs.Stored as stored
 use Rattle.wulameron_c.proofs.Stored.{pair, pair_fits}
 use Rattle.wulameron_c.proofs.Held as held
-use Rattle.wulameron_c.proofs.Held.{V, A, laws, ApartRow}
+use Rattle.wulameron_c.proofs.Held.{V, A, laws, RawBoxRow}
 use Rattle.wulameron_c.specs.contracts.pointer.SessionPointer.of.{ended, clauses}
 use Rattle.wulameron_c.specs.contracts.pointer.SessionPointer.of.Key.{name as #self}
 use Rattle.wulameron_c.proofs.pointer.SessionPointer.of.Statement.{statement}
@@ -31,7 +31,7 @@ use Rattle.wulameron_c.proofs.pointer.SessionPointer.of.Code as code
 pub of_spec : {M : Type 1} → statement M
 of_spec 𝓤 𝓛 𝓜 𝓡 wired =
     let H = 𝓛.H in let 𝓣 = tables 𝓤 H 𝓜 𝓡 𝓡.env in let c = clauses 𝓛 𝓜.mem 𝓡.returns in let fn = code.function in
-    let taken = plain (λ _. ApartRow) in let stays : Stays ended.signature.params ended.kept = (stay_dropped taken yes, tt) in
+    let taken = plain (λ _. RawBoxRow) in let stays : Stays ended.signature.params ended.kept = (stay_dropped taken yes, tt) in
     proved_at 𝓛 ended stays c 𝓜 𝓡 (Goes-dropped 𝓛 0 taken yes (λ κs x f. refl), tt) #self fn (code.unfolded 𝓤 H 𝓜 𝓡 wired) (λ z are.
     let κs = z.0.0 in let v = z.0.3.0 in let Post : Val → SProp 𝓤 = (walk_of 𝓛 ended stays c).post z in let Run : List Val → SProp 𝓤 = λ ws. WpFn 𝓤 H 𝓣.C 𝓣.Λ fn ws Post in
     qed 𝓛 ((‵ ftrue ⊛ ‵ (owns (types_at ended.signature.params κs) z.0.3 z.0.4)) ∷ raw ((c κs z.0.3).requires z.1) ∷ []) ∵ split ! $ move ! (1 ∷ []) $ fsplit ! $

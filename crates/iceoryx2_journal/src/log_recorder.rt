@@ -8,13 +8,13 @@ use iceoryx2_table::recorder::{NotWritten, Recorder};
 
 /// A log, with the entry that is to be appended next.
 #[derive(Drop)]
-pub struct Pen<L> {
+pub struct LogRecorder<L> {
     pub log: L,
     pub entry: Option<Entry>,
 }
 
-impl<L: Log> Recorder for Pen<L> {
-    ghost use Rattle.iceoryx2_journal.specs.Pen.{Appended, NotAppended};
+impl<L: Log> Recorder for LogRecorder<L> {
+    ghost use Rattle.iceoryx2_journal.specs.LogRecorder.{Appended, NotAppended};
 
     ghost written = { λ before after. Appended L.contents before after };
 

@@ -35,10 +35,10 @@ use Rattle.std.proofs.raw_atomic.Walks.{proved_at, leaves}
 use Rattle.wulameron_c.proofs.Stored.{pair, pair_fits, closed}
 use Rattle.std.specs.contracts.boxed.Box.into_raw_with_allocator as callee
 use Rattle.std.proofs.boxed.Box.into_raw_with_allocator.Met.{met}
-use Rattle.wulameron_c.specs.contracts.apart.Apart.take.{ended, clauses}
-use Rattle.wulameron_c.specs.contracts.apart.Apart.take.Key.{name as #self}
-use Rattle.wulameron_c.proofs.apart.Apart.take.Statement.{statement}
-use Rattle.wulameron_c.proofs.apart.Apart.take.Code as code
+use Rattle.wulameron_c.specs.contracts.raw_box.RawBox.take.{ended, clauses}
+use Rattle.wulameron_c.specs.contracts.raw_box.RawBox.take.Key.{name as #self}
+use Rattle.wulameron_c.proofs.raw_box.RawBox.take.Statement.{statement}
+use Rattle.wulameron_c.proofs.raw_box.RawBox.take.Code as code
 
 pub take_spec : {M : Type 1} → statement M
 take_spec 𝓤 𝓛 𝓜 𝓡 wired T A L LA g d dx dd allocator glue glued =

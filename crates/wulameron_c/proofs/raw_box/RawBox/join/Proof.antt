@@ -34,10 +34,10 @@ use Rattle.std.proofs.raw_atomic.Walks.{proved_at, leaves}
 use Rattle.wulameron_c.proofs.Stored.{pair, row, pair_fits, opened}
 use Rattle.std.specs.contracts.boxed.Box.from_raw as callee
 use Rattle.std.proofs.boxed.Box.from_raw.Met.{met}
-use Rattle.wulameron_c.specs.contracts.apart.Apart.join.{ended, clauses}
-use Rattle.wulameron_c.specs.contracts.apart.Apart.join.Key.{name as #self}
-use Rattle.wulameron_c.proofs.apart.Apart.join.Statement.{statement}
-use Rattle.wulameron_c.proofs.apart.Apart.join.Code as code
+use Rattle.wulameron_c.specs.contracts.raw_box.RawBox.join.{ended, clauses}
+use Rattle.wulameron_c.specs.contracts.raw_box.RawBox.join.Key.{name as #self}
+use Rattle.wulameron_c.proofs.raw_box.RawBox.join.Statement.{statement}
+use Rattle.wulameron_c.proofs.raw_box.RawBox.join.Code as code
 
 pub join_spec : {M : Type 1} → statement M
 join_spec 𝓤 𝓛 𝓜 𝓡 wired T A L LA g d dx dd allocator glue glued =

@@ -1,4 +1,4 @@
--- What a deed's kind, numbers and bytes are, read and written.
+-- What a operation's kind, numbers and bytes are, read and written.
 use Rattle.std.proofs.Common.{◌≡◌, ℕ, ◌^◌, ◌<◌, Bool, true, false, cond, eqb, List, [], ◌∷◌, ◌++◌, Option, Some, refl, ap, subst, ◌∙◌, arith}
 use Rattle.std.specs.Prelude.{All}
 use Rattle.std.specs.Int.{w64}
@@ -7,35 +7,35 @@ use Rattle.std.proofs.lemmas.List.{get_or_default}
 use Rattle.iceoryx2_data.specs.PartForm.{number}
 use Rattle.iceoryx2_data.specs.PartReading.{◌>>=◌, number_at}
 use Rattle.iceoryx2_data.proofs.PartForms.{IsBytes, bind_some, some_is, Reads-number64}
-use Rattle.iceoryx2_log.specs.declared.entry.Deed.{Deed}
-use Rattle.iceoryx2_log.specs.declared.entry.Deed.TheVariants.{MakeTag, RemoveTag, Lock, MakeSegment, RemoveSegment, RemoveDescription, Publish, OpenSegment, Release, Spend, Moved}
-use Rattle.iceoryx2_log.specs.Form.{IsDeed, kind, details}
-use Rattle.iceoryx2_log.specs.Reading.{none_in, number_in, numbers_in, publish_in, plain_deed_in, deed_in}
+use Rattle.iceoryx2_log.specs.declared.entry.Operation.{Operation}
+use Rattle.iceoryx2_log.specs.declared.entry.Operation.TheVariants.{MakeTag, RemoveTag, Lock, MakeSegment, RemoveSegment, RemoveDescription, Publish, OpenSegment, Release, Spend, Moved}
+use Rattle.iceoryx2_log.specs.Form.{IsOperation, kind, details}
+use Rattle.iceoryx2_log.specs.Reading.{none_in, number_in, numbers_in, publish_in, plain_operation_in, operation_in}
 
--- the deed whose kind and details these are
-pub record IsRead (k : ℕ) (bytes : List ℕ) (d : Deed) : Type 0 where
+-- the operation whose kind and details these are
+pub record IsRead (k : ℕ) (bytes : List ℕ) (d : Operation) : Type 0 where
   pub is_kind : k ≡ kind d
   pub parts : bytes ≡ details d
-  pub fits : IsDeed d
+  pub fits : IsOperation d
 
 -- ---- nothing, a number, two numbers, a number and bytes
 
-pub record Nothing (d x : Deed) (bytes : List ℕ) : Type 0 where
+pub record Nothing (d x : Operation) (bytes : List ℕ) : Type 0 where
   pub none : bytes ≡ []
   pub same : d ≡ x
 
-none_takes : (d x : Deed) (bytes : List ℕ) → none_in d bytes ≡ Some x → Nothing d x bytes
+none_takes : (d x : Operation) (bytes : List ℕ) → none_in d bytes ≡ Some x → Nothing d x bytes
 unfolding none_in
 none_takes d x [] e = record { none = refl; same = some_is d x e }
 none_takes d x (b ∷ bytes) e = absurd cc
 
-pub record OneNumber (to : ℕ → Deed) (x : Deed) (bytes : List ℕ) : Type 0 where
+pub record OneNumber (to : ℕ → Operation) (x : Operation) (bytes : List ℕ) : Type 0 where
   pub one : ℕ
   pub small : one < 2 ^ 64
   pub parts : bytes ≡ number one
   pub same : to one ≡ x
 
-number_takes : (to : ℕ → Deed) (x : Deed) (bytes : List ℕ) → IsBytes bytes → number_in to bytes ≡ Some x → OneNumber to x bytes
+number_takes : (to : ℕ → Operation) (x : Operation) (bytes : List ℕ) → IsBytes bytes → number_in to bytes ≡ Some x → OneNumber to x bytes
 unfolding number_in
 number_takes to x bytes fits e =
     let a = bind_some (number_at w64 bytes) (λ y. none_in (to y.0) y.1) x e in
@@ -43,14 +43,14 @@ number_takes to x bytes fits e =
     let end = none_takes (to a.0.0) x a.0.1 a.2 in
     record { one = a.0.0; small = t.1; parts = t.0.parts ∙ ap (λ (r : List ℕ). number a.0.0 ++ r) end.none; same = end.same }
 
-pub record TwoNumbers (to : ℕ → ℕ → Deed) (x : Deed) (bytes : List ℕ) : Type 0 where
+pub record TwoNumbers (to : ℕ → ℕ → Operation) (x : Operation) (bytes : List ℕ) : Type 0 where
   pub one : ℕ
   pub two : ℕ
   pub small : (one < 2 ^ 64) × (two < 2 ^ 64)
   pub parts : bytes ≡ number one ++ number two
   pub same : to one two ≡ x
 
-numbers_takes : (to : ℕ → ℕ → Deed) (x : Deed) (bytes : List ℕ) → IsBytes bytes → numbers_in to bytes ≡ Some x → TwoNumbers to x bytes
+numbers_takes : (to : ℕ → ℕ → Operation) (x : Operation) (bytes : List ℕ) → IsBytes bytes → numbers_in to bytes ≡ Some x → TwoNumbers to x bytes
 unfolding numbers_in
 numbers_takes to x bytes fits e =
     let a = bind_some (number_at w64 bytes) (λ y. number_in (to y.0) y.1) x e in
@@ -58,45 +58,45 @@ numbers_takes to x bytes fits e =
     let last = number_takes (to a.0.0) x a.0.1 t.0.rest_fits a.2 in
     record { one = a.0.0; two = last.one; small = (t.1, last.small); parts = t.0.parts ∙ ap (λ (r : List ℕ). number a.0.0 ++ r) last.parts; same = last.same }
 
--- ---- each of them as a deed's kind
+-- ---- each of them as a operation's kind
 
-none_read : (d x : Deed) (k : ℕ) (bytes : List ℕ) → k ≡ kind d → [] ≡ details d → IsDeed d → none_in d bytes ≡ Some x → IsRead k bytes x
+none_read : (d x : Operation) (k : ℕ) (bytes : List ℕ) → k ≡ kind d → [] ≡ details d → IsOperation d → none_in d bytes ≡ Some x → IsRead k bytes x
 none_read d x k bytes is nothing fits e =
     let t = none_takes d x bytes e in
-    subst (λ (y : Deed). IsRead k bytes y) t.same (record { is_kind = is; parts = t.none ∙ nothing; fits = fits })
+    subst (λ (y : Operation). IsRead k bytes y) t.same (record { is_kind = is; parts = t.none ∙ nothing; fits = fits })
 
-lock_read : (x : Deed) (k : ℕ) (bytes : List ℕ) → IsBytes bytes → k ≡ 3 → number_in Lock bytes ≡ Some x → IsRead k bytes x
+lock_read : (x : Operation) (k : ℕ) (bytes : List ℕ) → IsBytes bytes → k ≡ 3 → number_in Lock bytes ≡ Some x → IsRead k bytes x
 lock_read x k bytes fits is e =
     let t = number_takes Lock x bytes fits e in
-    subst (λ (y : Deed). IsRead k bytes y) t.same (record { is_kind = is; parts = t.parts; fits = t.small })
+    subst (λ (y : Operation). IsRead k bytes y) t.same (record { is_kind = is; parts = t.parts; fits = t.small })
 
-make_segment_read : (x : Deed) (k : ℕ) (bytes : List ℕ) → IsBytes bytes → k ≡ 4 → numbers_in MakeSegment bytes ≡ Some x → IsRead k bytes x
+make_segment_read : (x : Operation) (k : ℕ) (bytes : List ℕ) → IsBytes bytes → k ≡ 4 → numbers_in MakeSegment bytes ≡ Some x → IsRead k bytes x
 make_segment_read x k bytes fits is e =
     let t = numbers_takes MakeSegment x bytes fits e in
-    subst (λ (y : Deed). IsRead k bytes y) t.same (record { is_kind = is; parts = t.parts; fits = t.small })
+    subst (λ (y : Operation). IsRead k bytes y) t.same (record { is_kind = is; parts = t.parts; fits = t.small })
 
-open_segment_read : (x : Deed) (k : ℕ) (bytes : List ℕ) → IsBytes bytes → k ≡ 8 → numbers_in OpenSegment bytes ≡ Some x → IsRead k bytes x
+open_segment_read : (x : Operation) (k : ℕ) (bytes : List ℕ) → IsBytes bytes → k ≡ 8 → numbers_in OpenSegment bytes ≡ Some x → IsRead k bytes x
 open_segment_read x k bytes fits is e =
     let t = numbers_takes OpenSegment x bytes fits e in
-    subst (λ (y : Deed). IsRead k bytes y) t.same (record { is_kind = is; parts = t.parts; fits = t.small })
+    subst (λ (y : Operation). IsRead k bytes y) t.same (record { is_kind = is; parts = t.parts; fits = t.small })
 
-release_read : (x : Deed) (k : ℕ) (bytes : List ℕ) → IsBytes bytes → k ≡ 9 → numbers_in Release bytes ≡ Some x → IsRead k bytes x
+release_read : (x : Operation) (k : ℕ) (bytes : List ℕ) → IsBytes bytes → k ≡ 9 → numbers_in Release bytes ≡ Some x → IsRead k bytes x
 release_read x k bytes fits is e =
     let t = numbers_takes Release x bytes fits e in
-    subst (λ (y : Deed). IsRead k bytes y) t.same (record { is_kind = is; parts = t.parts; fits = t.small })
+    subst (λ (y : Operation). IsRead k bytes y) t.same (record { is_kind = is; parts = t.parts; fits = t.small })
 
-spend_read : (x : Deed) (k : ℕ) (bytes : List ℕ) → IsBytes bytes → k ≡ 10 → number_in Spend bytes ≡ Some x → IsRead k bytes x
+spend_read : (x : Operation) (k : ℕ) (bytes : List ℕ) → IsBytes bytes → k ≡ 10 → number_in Spend bytes ≡ Some x → IsRead k bytes x
 spend_read x k bytes fits is e =
     let t = number_takes Spend x bytes fits e in
-    subst (λ (y : Deed). IsRead k bytes y) t.same (record { is_kind = is; parts = t.parts; fits = t.small })
+    subst (λ (y : Operation). IsRead k bytes y) t.same (record { is_kind = is; parts = t.parts; fits = t.small })
 
-publish_read : (x : Deed) (k : ℕ) (bytes : List ℕ) → IsBytes bytes → k ≡ 7 → publish_in bytes ≡ Some x → IsRead k bytes x
+publish_read : (x : Operation) (k : ℕ) (bytes : List ℕ) → IsBytes bytes → k ≡ 7 → publish_in bytes ≡ Some x → IsRead k bytes x
 unfolding publish_in
 publish_read x k bytes fits is e =
     let a = bind_some (number_at w64 bytes) (λ y. Some (Publish y.0 y.1)) x e in
     let t = Reads-number64.takes bytes a.0 fits a.1 in
     let each : All (λ b. b < 256) a.0.1 = λ i d lt. rw (get_or_default a.0.1 i d 0 lt) (t.0.rest_fits i) in
-    subst (λ (y : Deed). IsRead k bytes y) (some_is (Publish a.0.0 a.0.1) x a.2) (record { is_kind = is; parts = t.0.parts; fits = (t.1, each) })
+    subst (λ (y : Operation). IsRead k bytes y) (some_is (Publish a.0.0 a.0.1) x a.2) (record { is_kind = is; parts = t.0.parts; fits = (t.1, each) })
 
 -- ---- one of the kinds
 
@@ -104,8 +104,8 @@ either : {A P : Type 0} {r s : Option A} {x : A} (b : Bool) → cond b r s ≡ S
 either true e first other = first refl e
 either false e first other = other e
 
-plain_takes : (k : ℕ) (bytes : List ℕ) (x : Deed) → IsBytes bytes → plain_deed_in k bytes ≡ Some x → IsRead k bytes x
-unfolding plain_deed_in
+plain_takes : (k : ℕ) (bytes : List ℕ) (x : Operation) → IsBytes bytes → plain_operation_in k bytes ≡ Some x → IsRead k bytes x
+unfolding plain_operation_in
 plain_takes k bytes x fits e =
     either (eqb k 1) e (λ is h. none_read MakeTag x k bytes (eqb-true k 1 is) refl tt h) (λ e2.
     either (eqb k 2) e2 (λ is h. none_read RemoveTag x k bytes (eqb-true k 2 is) refl tt h) (λ e3.
@@ -118,9 +118,9 @@ plain_takes k bytes x fits e =
     either (eqb k 10) e10 (λ is h. spend_read x k bytes fits (eqb-true k 10 is) h) (λ e11.
     either (eqb k 11) e11 (λ is h. none_read Moved x k bytes (eqb-true k 11 is) refl tt h) (λ none. absurd cc))))))))))
 
-pub deed_takes : (k : ℕ) (bytes : List ℕ) (x : Deed) → IsBytes bytes → deed_in k bytes ≡ Some x → IsRead k bytes x
-unfolding deed_in
-deed_takes k bytes x fits e =
+pub operation_takes : (k : ℕ) (bytes : List ℕ) (x : Operation) → IsBytes bytes → operation_in k bytes ≡ Some x → IsRead k bytes x
+unfolding operation_in
+operation_takes k bytes x fits e =
     either (eqb k 7) e (λ is h. publish_read x k bytes fits (eqb-true k 7 is) h) (λ other. plain_takes k bytes x fits other)
 
 -- ---- what was written is read again
@@ -128,11 +128,11 @@ deed_takes k bytes x fits e =
 abbrev Numbered : Type 0
 Numbered = Option (ℕ × List ℕ)
 
-number_again : (to : ℕ → Deed) (n : ℕ) → n < 2 ^ 64 → number_in to (number n) ≡ Some (to n)
+number_again : (to : ℕ → Operation) (n : ℕ) → n < 2 ^ 64 → number_in to (number n) ≡ Some (to n)
 unfolding number_in none_in
 number_again to n small = ap (λ (r : Numbered). r >>= λ y. none_in (to y.0) y.1) (Reads-number64.again n [] small)
 
-numbers_again : (to : ℕ → ℕ → Deed) (n m : ℕ) → n < 2 ^ 64 → m < 2 ^ 64 → numbers_in to (number n ++ number m) ≡ Some (to n m)
+numbers_again : (to : ℕ → ℕ → Operation) (n m : ℕ) → n < 2 ^ 64 → m < 2 ^ 64 → numbers_in to (number n ++ number m) ≡ Some (to n m)
 unfolding numbers_in
 numbers_again to n m small other = ap (λ (r : Numbered). r >>= λ y. number_in (to y.0) y.1) (Reads-number64.again n (number m) small) ∙ number_again (to n) m other
 
@@ -140,21 +140,21 @@ publish_again : (n : ℕ) (bytes : List ℕ) → n < 2 ^ 64 → publish_in (numb
 unfolding publish_in
 publish_again n bytes small = ap (λ (r : Numbered). r >>= λ y. Some (Publish y.0 y.1)) (Reads-number64.again n bytes small)
 
-pub deed_again : (d : Deed) → IsDeed d → deed_in (kind d) (details d) ≡ Some d
-unfolding deed_in plain_deed_in none_in
-deed_again MakeTag fits = refl
-deed_again RemoveTag fits = refl
-deed_again (Lock n) fits = number_again Lock n fits
-deed_again (MakeSegment n nodes) fits = numbers_again MakeSegment n nodes fits.0 fits.1
-deed_again RemoveSegment fits = refl
-deed_again RemoveDescription fits = refl
-deed_again (Publish n bytes) fits = publish_again n bytes fits.0
-deed_again (OpenSegment n ticket) fits = numbers_again OpenSegment n ticket fits.0 fits.1
-deed_again (Release ticket n) fits = numbers_again Release ticket n fits.0 fits.1
-deed_again (Spend n) fits = number_again Spend n fits
-deed_again Moved fits = refl
+pub operation_again : (d : Operation) → IsOperation d → operation_in (kind d) (details d) ≡ Some d
+unfolding operation_in plain_operation_in none_in
+operation_again MakeTag fits = refl
+operation_again RemoveTag fits = refl
+operation_again (Lock n) fits = number_again Lock n fits
+operation_again (MakeSegment n nodes) fits = numbers_again MakeSegment n nodes fits.0 fits.1
+operation_again RemoveSegment fits = refl
+operation_again RemoveDescription fits = refl
+operation_again (Publish n bytes) fits = publish_again n bytes fits.0
+operation_again (OpenSegment n ticket) fits = numbers_again OpenSegment n ticket fits.0 fits.1
+operation_again (Release ticket n) fits = numbers_again Release ticket n fits.0 fits.1
+operation_again (Spend n) fits = number_again Spend n fits
+operation_again Moved fits = refl
 
-pub kind_below : (d : Deed) → kind d < 256
+pub kind_below : (d : Operation) → kind d < 256
 kind_below MakeTag = omega arith
 kind_below RemoveTag = omega arith
 kind_below (Lock n) = omega arith

@@ -4,23 +4,23 @@ use std::alloc::{AllocError, AllocFailed};
 
 /// A line isn't understood, or memory ran out.
 #[derive(Clone, Copy)]
-pub struct Wrong;
+pub struct CaseError;
 
-impl From<AllocError> for Wrong {
-    fn from(_error: AllocError) -> Wrong {
-        Wrong
+impl From<AllocError> for CaseError {
+    fn from(_error: AllocError) -> CaseError {
+        CaseError
     }
 }
 
-impl<T: Drop> From<AllocFailed<T>> for Wrong {
-    fn from(_failed: AllocFailed<T>) -> Wrong {
-        Wrong
+impl<T: Drop> From<AllocFailed<T>> for CaseError {
+    fn from(_failed: AllocFailed<T>) -> CaseError {
+        CaseError
     }
 }
 
 /// Writes what a question is answered, or that a line is wrong. A line that is no question has no answer.
 pub fn write_answer(
-    done: Result<(), Wrong>,
+    done: Result<(), CaseError>,
     line: &str,
     answer: Option<&str>,
     text: &mut String,
@@ -31,6 +31,6 @@ pub fn write_answer(
             let answer = answer.trim_end();
             writeln!(text, "{answer}")
         }
-        (Err(Wrong), _) => writeln!(text, "wrong: {line}"),
+        (Err(CaseError), _) => writeln!(text, "wrong: {line}"),
     }
 }

@@ -5,7 +5,7 @@ use std::alloc::AllocError;
 
 /// What is wrong with a line, with the term that it is about.
 #[derive(Clone, Copy, Debug, PartialEq, Eq)]
-pub enum Wrong<'a> {
+pub enum LineError<'a> {
     /// The line isn't UTF-8.
     NotUtf8,
     /// No command begins with this term.
@@ -71,20 +71,20 @@ pub enum Wrong<'a> {
 
 /// Why a part of a line isn't read.
 #[derive(Clone, Copy, Debug, PartialEq, Eq)]
-pub(crate) enum Flaw<'a> {
+pub(crate) enum LineFailure<'a> {
     /// It is wrong.
-    Wrong(Wrong<'a>),
+    Wrong(LineError<'a>),
     /// There is no memory for what it means.
     OutOfMemory,
 }
 
-impl From<AllocError> for Flaw<'_> {
+impl From<AllocError> for LineFailure<'_> {
     ghost use Rattle.std.specs.Prelude.{◌≡◌};
-    ghost use Rattle.negotiate_lines.specs.declared.wrong.Flaw.TheVariants as flaw;
+    ghost use Rattle.negotiate_lines.specs.declared.line_error.LineFailure.TheVariants as flaw;
 
     ghost from_gives = { λ _ given. given ≡ flaw.OutOfMemory };
 
     fn from(_error: AllocError) -> Self {
-        Flaw::OutOfMemory
+        LineFailure::OutOfMemory
     }
 }
