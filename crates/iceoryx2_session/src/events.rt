@@ -35,7 +35,7 @@ impl<S: Storage> CallsBuilder<S> for Builder<ServiceOver<S>> {
         slot: usize,
     ) -> Result<u64, Refusal> {
         match self.create_with_attributes(&defined_by(attributes), storage, now) {
-            Ok(factory) => Ok(slots.keep(slot, factory.into_registration())),
+            Ok(factory) => Ok(slots.keep(slot, factory)),
             Err(error) => Err(Refusal::EventCreate(error)),
         }
     }
@@ -49,7 +49,7 @@ impl<S: Storage> CallsBuilder<S> for Builder<ServiceOver<S>> {
         slot: usize,
     ) -> Result<u64, Refusal> {
         match self.open_with_attributes(attributes, storage) {
-            Ok(factory) => Ok(slots.keep(slot, factory.into_registration())),
+            Ok(factory) => Ok(slots.keep(slot, factory)),
             Err(error) => Err(Refusal::EventOpen(error)),
         }
     }
@@ -63,7 +63,7 @@ impl<S: Storage> CallsBuilder<S> for Builder<ServiceOver<S>> {
         slot: usize,
     ) -> Result<u64, Refusal> {
         match self.open_or_create_with_attributes(attributes, storage, now) {
-            Ok(factory) => Ok(slots.keep(slot, factory.into_registration())),
+            Ok(factory) => Ok(slots.keep(slot, factory)),
             Err(error) => Err(Refusal::EventOpenOrCreate(error)),
         }
     }

@@ -5,7 +5,7 @@
 //! steps (`own`): a slot is tested before any access; a call on a free slot is the builder call that it names; a
 //! close of a taken slot goes along a word of close; a listing is the world's; nothing else is asked (`along`).
 //!
-//! `carry_out`, `carry_out_all` and `close_all`, over any world, by own nodes: it goes so over the world that is
+//! `apply_shared`, `run_shared` and `close_all`, over any world, by own nodes: it goes so over the world that is
 //! shown (`goes`); where that agreed it agrees (`agrees`), the slots' factories stand, each with a ticket of its
 //! own (`stands`), and each call is as promised (`promised`). A close that isn't granted keeps the slot
 //! (`NotClosed`), and own nodes' tickets are those of the slots (`owns`). `apply`, `run` and `finish`, over a

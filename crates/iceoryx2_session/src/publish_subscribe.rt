@@ -43,7 +43,7 @@ impl<S: Storage> CallsBuilder<S> for Builder<S> {
         slot: usize,
     ) -> Result<u64, Refusal> {
         match self.create_with_attributes(&defined_by(attributes), storage) {
-            Ok(factory) => Ok(slots.keep(slot, factory.into_registration())),
+            Ok(factory) => Ok(slots.keep(slot, factory)),
             Err(error) => Err(Refusal::PublishSubscribeCreate(error)),
         }
     }
@@ -57,7 +57,7 @@ impl<S: Storage> CallsBuilder<S> for Builder<S> {
         slot: usize,
     ) -> Result<u64, Refusal> {
         match self.open_with_attributes(attributes, storage) {
-            Ok(factory) => Ok(slots.keep(slot, factory.into_registration())),
+            Ok(factory) => Ok(slots.keep(slot, factory)),
             Err(error) => Err(Refusal::PublishSubscribeOpen(error)),
         }
     }
@@ -71,7 +71,7 @@ impl<S: Storage> CallsBuilder<S> for Builder<S> {
         slot: usize,
     ) -> Result<u64, Refusal> {
         match self.open_or_create_with_attributes(attributes, storage) {
-            Ok(factory) => Ok(slots.keep(slot, factory.into_registration())),
+            Ok(factory) => Ok(slots.keep(slot, factory)),
             Err(error) => Err(Refusal::PublishSubscribeOpenOrCreate(error)),
         }
     }

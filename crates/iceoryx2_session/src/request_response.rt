@@ -45,7 +45,7 @@ impl<S: Storage> CallsBuilder<S> for Builder<S> {
         slot: usize,
     ) -> Result<u64, Refusal> {
         match self.create_with_attributes(&defined_by(attributes), storage) {
-            Ok(factory) => Ok(slots.keep(slot, factory.into_registration())),
+            Ok(factory) => Ok(slots.keep(slot, factory)),
             Err(error) => Err(Refusal::RequestResponseCreate(error)),
         }
     }
@@ -59,7 +59,7 @@ impl<S: Storage> CallsBuilder<S> for Builder<S> {
         slot: usize,
     ) -> Result<u64, Refusal> {
         match self.open_with_attributes(attributes, storage) {
-            Ok(factory) => Ok(slots.keep(slot, factory.into_registration())),
+            Ok(factory) => Ok(slots.keep(slot, factory)),
             Err(error) => Err(Refusal::RequestResponseOpen(error)),
         }
     }
@@ -73,7 +73,7 @@ impl<S: Storage> CallsBuilder<S> for Builder<S> {
         slot: usize,
     ) -> Result<u64, Refusal> {
         match self.open_or_create_with_attributes(attributes, storage) {
-            Ok(factory) => Ok(slots.keep(slot, factory.into_registration())),
+            Ok(factory) => Ok(slots.keep(slot, factory)),
             Err(error) => Err(Refusal::RequestResponseOpenOrCreate(error)),
         }
     }

@@ -128,9 +128,9 @@ impl<S: WorldStorage> Session<S> {
         }
     }
 
-    /// Carries out one command. The slot is tested before anything is called. A close that the storage releases frees
+    /// Applies one command. The slot is tested before anything is called. A close that the storage releases frees
     /// the slot, and what it didn't remove stays there. If it didn't release the factory the slot holds that as before.
-    pub fn carry_out(&mut self, command: Command) -> Reply
+    pub fn apply_shared(&mut self, command: Command) -> Reply
         // It is the builder call or the close that it names, along a word of it,
         ensures own { AppliesBy S.step S.world (own_state self.old) command result (own_state self.new) }
 
@@ -165,9 +165,9 @@ impl<S: WorldStorage> Session<S> {
         self.dispatch(command)
     }
 
-    /// Carries out one command as `carry_out` does, as one call: whoever shares the storage waits from its first access to
-    /// its last. So over a log it is refused before its first access because others have the log, or not at all.
-    pub fn carry_out_held(&mut self, command: Command) -> Reply
+    /// Applies one command as `apply_shared` does, as one call: whoever shares the storage waits from its first access
+    /// to its last. So over a log it is refused before its first access because others have the log, or not at all.
+    pub fn apply_held(&mut self, command: Command) -> Reply
         ensures own { AppliesHeld S.spans S.step S.world (own_state self.old) command result (own_state self.new) }
 
         // Nobody waits for it any more.
@@ -189,7 +189,7 @@ impl<S: WorldStorage> Session<S> {
             → IsOfOwn own (own_state self.old).config command → SlotsStandInWorld own (world_state S.world self.new) }
     {
         self.begin_call();
-        let reply = self.carry_out(command);
+        let reply = self.apply_shared(command);
         self.end_call();
         reply
     }
@@ -209,9 +209,9 @@ impl<S: WorldStorage> Session<S> {
         self.storage.end_call();
     }
 
-    /// Carries out commands in order, and gives as many replies, each the one to its command. Room for
+    /// Applies commands in order, and gives as many replies, each the one to its command. Room for
     /// all replies is asked for first.
-    pub fn carry_out_all(&mut self, commands: Vec<Command>) -> Result<Vec<Reply>, AllocError>
+    pub fn run_shared(&mut self, commands: Vec<Command>) -> Result<Vec<Reply>, AllocError>
         // Where there is no room, nothing is carried out.
         ensures refused { OnErr result (own_state self.new ≡ own_state self.old) }
 
@@ -249,7 +249,7 @@ impl<S: WorldStorage> Session<S> {
     {
         let mut replies = Vec::with_capacity(*commands.allocator(), commands.len())?;
         for command in commands {
-            replies.push_reserved(self.carry_out(command));
+            replies.push_reserved(self.apply_shared(command));
         }
         Ok(replies)
     }
@@ -584,7 +584,7 @@ impl<S: TableStorage> Session<S> {
         Session::over(config, storage)
     }
 
-    /// Carries out one command. The slot is tested before anything is called.
+    /// Applies one command. The slot is tested before anything is called.
     pub fn apply(&mut self, command: Command) -> Reply
         // Over any storage it is the builder call or the close that it names, along a word of it,
         ensures own { AppliesBy S.step (shown_world S.shown) (own_state self.old) command result (own_state self.new) }
@@ -619,10 +619,10 @@ impl<S: TableStorage> Session<S> {
             → SlotsStand (state_of S.shown self.old)
             → RepliesNoChange result → IsUnchanged (state_of S.shown self.old) (state_of S.shown self.new) }
     {
-        self.carry_out(command)
+        self.apply_shared(command)
     }
 
-    /// Carries out commands in order, and gives as many replies, each the one to its command. Room for
+    /// Applies commands in order, and gives as many replies, each the one to its command. Room for
     /// all replies is asked for first.
     pub fn run(&mut self, commands: Vec<Command>) -> Result<Vec<Reply>, AllocError>
         // Where there is no room, nothing is carried out.
@@ -663,7 +663,7 @@ impl<S: TableStorage> Session<S> {
             → IfOk result (λ replies.
             Each RepliesNoChange replies.items → IsUnchanged (state_of S.shown self.old) (state_of S.shown self.new)) }
     {
-        self.carry_out_all(commands)
+        self.run_shared(commands)
     }
 
     /// Closes the factories of all slots, in ascending order, and gives the storage back.

@@ -3,8 +3,10 @@
 ghost use Rattle.std.specs.Prelude.{◌≡◌, ◌<◌, ◌≤◌, slice_set, slice_get, Some, None, MatchBool, replicate, length};
 ghost use Rattle.std.specs.Prelude.{take};
 
+use iceoryx2_access::storage::Service;
 use iceoryx2_builder::command::SLOTS;
 use iceoryx2_rounds::port_factory::Registration;
+use iceoryx2_rounds::port_factory::factory::{Kind, PortFactory};
 use std::marker::Model;
 
 /// A place for each slot, which may hold the registration of a factory. They have to be spent.
@@ -138,15 +140,15 @@ impl Slots {
         abandon(self.places[slot].replace(registration))
     }
 
-    /// Puts a registration into a free slot, and gives its service's number.
-    pub fn keep(&mut self, slot: usize, registration: Registration) -> u64
+    /// Puts a factory into a free slot, and gives its service's number.
+    pub fn keep<V: Service, K: Kind>(&mut self, slot: usize, factory: PortFactory<V, K>) -> u64
         requires in_range { slot < slot_count }
         requires free { FreeAt self.old slot }
-        ensures number { result ≡ registration.number }
-        ensures after { self.new ≡ slice_set self.old slot (Some registration) }
+        ensures number { result ≡ factory.number }
+        ensures after { self.new ≡ slice_set self.old slot (Some factory) }
     {
-        let number = registration.number();
-        self.put(slot, registration);
+        let number = factory.number();
+        self.put(slot, factory.into_registration());
         number
     }
 

@@ -51,8 +51,8 @@ fn created_and_opened(
     pattern: Pattern,
     session: &mut Sharing,
 ) -> Result<Vec<Entry>, TrialError> {
-    let _ = session.carry_out(call(alloc, pattern, How::Create, (2, 0, NAME))?);
-    let _ = session.carry_out(call(alloc, pattern, How::Open, (3, 1, NAME))?);
+    let _ = session.apply_shared(call(alloc, pattern, How::Create, (2, 0, NAME))?);
+    let _ = session.apply_shared(call(alloc, pattern, How::Open, (3, 1, NAME))?);
     let entries = session.storage().log().entries();
     first_entries(alloc, entries, entries.len())
 }
@@ -131,7 +131,7 @@ fn follow_on(
         followed.how,
         (1, slot, followed.text),
     )?;
-    let is_granted = match session.carry_out(again) {
+    let is_granted = match session.apply_shared(again) {
         Reply::Opened { slot: _, number: _ } => true,
         _ => false,
     };
@@ -155,7 +155,7 @@ fn attempt_in(
 ) -> Result<bool, TrialError> {
     let command = call(alloc, followed.pattern, followed.how, (1, 0, followed.text))?;
     refuse(alloc, refusing);
-    let reply = session.carry_out(command);
+    let reply = session.apply_shared(command);
     match end(alloc) {
         Refused::None => {
             if is_opened(&reply) {

@@ -72,7 +72,7 @@ fn one_by_one<S: WorldStorage>(rt: &impl Abort, alloc: Global, storage: S) -> (V
     let mut replies = Vec::new(alloc);
     for command in commands(rt, alloc) {
         session.refresh();
-        push(rt, &mut replies, session.carry_out(command));
+        push(rt, &mut replies, session.apply_shared(command));
     }
     (replies, session.close_all())
 }
@@ -82,7 +82,7 @@ fn in_world(rt: &impl Abort, alloc: Global) -> [Vec<Reply>; 2] {
     let (replies, storage) = one_by_one(rt, alloc, traced(rt, alloc));
     drop_table(storage.into_inner());
     let mut session = Session::over(for_two(), Table::new(alloc));
-    let at_once = granted(rt, session.carry_out_all(commands(rt, alloc)));
+    let at_once = granted(rt, session.run_shared(commands(rt, alloc)));
     drop_table(session.close_all());
     [replies, at_once]
 }

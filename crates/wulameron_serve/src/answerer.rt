@@ -213,7 +213,7 @@ impl<S: Viewed + Resuming + Troubled, D: DeadNodes + Drop> NodeAnswerer<S, D> {
     {
         let slot = slot_of(&command);
         let before = self.storage().counted();
-        let reply = self.session.carry_out_held(command);
+        let reply = self.session.apply_held(command);
         self.may_owe = self.may_owe || self.storage().trouble().is_some();
         let made = self.storage().counted().saturating_sub(before);
         Carried { reply, slot, made }

@@ -133,7 +133,7 @@ fn hold_made<L: SpansCalls, R: Read, W: Write>(
     );
     let shown = print(text, output);
     let waited = wait(shown, input);
-    let closed = session.carry_out_held(Command::Close { slot: factory.slot });
+    let closed = session.apply_held(Command::Close { slot: factory.slot });
     ending(shown, waited, &closed)
 }
 
@@ -163,7 +163,7 @@ pub fn hold_call<L: SpansCalls, R: Read, W: Write>(
     ensures { Holds (Spans L.contents) (IsAccessOver L.contents L.held) (λ j. j.world) states.now call
         (own_state session.old) (own_state session.new) result (W.contents output.old) (W.contents output.new) }
 {
-    let reply = session.carry_out_held(Command::Call(call));
+    let reply = session.apply_held(Command::Call(call));
     match factory_of(reply) {
         Ok(factory) => hold_made(alloc, session, factory, states, input, output),
         Err(why) => Err(why),

@@ -81,7 +81,7 @@ fn found(
 ) -> Vec<Seen> {
     let mut all = Vec::new(alloc);
     for command in commands {
-        let reply = session.carry_out(command);
+        let reply = session.apply_shared(command);
         let listing = granted(rt, session.storage().list());
         push(rt, &mut all, (reply, listing));
     }

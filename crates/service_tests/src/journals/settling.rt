@@ -38,7 +38,7 @@ fn process(rt: &impl Abort, alloc: Global, first: u64) -> Process {
 
 /// What this line is answered.
 fn reply(rt: &impl Abort, alloc: Global, process: &mut Process, line: &str) -> Reply {
-    process.carry_out(there(rt, command_in(alloc, line)))
+    process.apply_shared(there(rt, command_in(alloc, line)))
 }
 
 /// Gives back what was left, as soon as that isn't refused any more. How many things that were.

@@ -21,7 +21,7 @@ returns g c =
           (subst (λ (w : World). IfErr c.show_in-text.result (IsUnshown w which)) seen c.show_in-text.ensures.unshown)
           c.print-shown.ensures.written c.print-shown.ensures.why;
       waited = c.wait-waited.result;
-      closed = c.carry_out_held-closed.result;
-      closes = c.carry_out_held-closed.ensures.own;
+      closed = c.apply_held-closed.result;
+      closes = c.apply_held-closed.ensures.own;
       ends = c.ending.ensures;
     }

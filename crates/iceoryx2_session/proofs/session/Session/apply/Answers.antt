@@ -10,7 +10,7 @@ use Rattle.iceoryx2_session.proofs.Shown.{goes_at_table, goes_seen}
 use Rattle.iceoryx2_session.proofs.session.Session.apply.Goals as goal
 
 pub returns-clause-own : goal.returns-clause-own
-returns-clause-own g c = goes_seen (shown_world g.S.TableStorage.shown) g.S.WorldStorage.world g.met.S.TableStorage.same_world c.carry_out.ensures.own
+returns-clause-own g c = goes_seen (shown_world g.S.TableStorage.shown) g.S.WorldStorage.world g.met.S.TableStorage.same_world c.apply_shared.ensures.own
 
 pub returns-clause-goes : goal.returns-clause-goes
 returns-clause-goes g c = goes_at_table g.S.Storage.step g.S.TableStorage.shown g.met.S.TableStorage.accesses (returns-clause-own g c)

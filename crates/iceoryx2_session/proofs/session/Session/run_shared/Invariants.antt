@@ -3,7 +3,7 @@ use Rattle.std.specs.Vec.Iter.{into_iter_items, into_iter_len}
 use Rattle.iceoryx2_session.specs.Sessions.{AppliesBy}
 use Rattle.iceoryx2_session.specs.SessionStates.{own_state}
 use Rattle.iceoryx2_session.specs.CommandLists.{CarriesOut}
-use Rattle.iceoryx2_session.proofs.session.Session.carry_out_all.Given as goal
+use Rattle.iceoryx2_session.proofs.session.Session.run_shared.Given as goal
 
 abbrev pub invariant-loop-command : goal.invariant-loop-command
 invariant-loop-command g l = record {

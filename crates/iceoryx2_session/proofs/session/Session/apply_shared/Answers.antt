@@ -1,7 +1,7 @@
 use Rattle.iceoryx2_session.proofs.Shown.{goes_along, goes_in_world}
 use Rattle.iceoryx2_session.proofs.StandingSlots.{agree_in_world, standing_in_world, promised_in_world}
 use Rattle.iceoryx2_session.proofs.OwnedTickets.{owns_in_world}
-use Rattle.iceoryx2_session.proofs.session.Session.carry_out.Goals as goal
+use Rattle.iceoryx2_session.proofs.session.Session.apply_shared.Goals as goal
 
 pub returns-clause-along : goal.returns-clause-along
 returns-clause-along g c = goes_along {world = g.S.WorldStorage.world} c.dispatch.ensures

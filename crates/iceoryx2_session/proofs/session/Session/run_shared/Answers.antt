@@ -6,7 +6,7 @@ use Rattle.iceoryx2_session.specs.SessionStates.{own_state}
 use Rattle.iceoryx2_session.specs.CommandLists.{CarriesOut, none}
 use Rattle.iceoryx2_session.proofs.CommandLists.{one_more, all_agree_in_world, all_own_in_world, all_stand_in_world}
 use Rattle.iceoryx2_session.proofs.Shown.{all_in_world}
-use Rattle.iceoryx2_session.proofs.session.Session.carry_out_all.Goals as goal
+use Rattle.iceoryx2_session.proofs.session.Session.run_shared.Goals as goal
 
 nothing_left : {X : Type 0} (l : List X) → length l ≡ 0 → l ≡ []
 nothing_left [] h = refl
@@ -45,7 +45,7 @@ loop-command-preserved g c =
     let longer = c.push_reserved.ensures.len in
     let capacity = c.push_reserved.ensures.capacity in
     record {
-      so_far = rw c.push_reserved.ensures.items (one_more at.invariant.so_far c.carry_out.ensures.own);
+      so_far = rw c.push_reserved.ensures.items (one_more at.invariant.so_far c.apply_shared.ensures.own);
       in_order = append_assoc at.yielded (x ∷ []) _ ∙ rw (← steps) at.invariant.in_order;
       left = omega (arith, fewer, shorter, left);
       room = omega (arith, fewer, room, longer, capacity);
