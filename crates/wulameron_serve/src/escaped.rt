@@ -12,7 +12,7 @@ ghost use Rattle.wulameron_serve.specs.Shared.{StandsFor};
 ghost use Rattle.wulameron_serve.specs.Telling.{IsTaken, greeting_of, told_or_no_memory};
 
 use crate::answerer::NodeAnswerer;
-use crate::lines::serve_until;
+use crate::lines::answer_until;
 use crate::nodes::SharedNodes;
 use crate::own_lines::OwnLines;
 use crate::run::{report_end, settle_end};
@@ -124,7 +124,7 @@ fn run_as<F: Files<File = File> + Clock + RandomSource + AllocGlobal, R: Read + 
                 place,
                 cleans: run.cleans,
             };
-            serve_log(rt.alloc(), log.for_node(node), dead, input, output)
+            start_and_greet(rt.alloc(), log.for_node(node), dead, input, output)
         }
         Err(trouble) => refuse_log(rt.alloc(), trouble, output),
     }
@@ -143,7 +143,7 @@ fn refuse_start<W: Write>(alloc: Global, halt: Halt, output: &mut W) -> u8
 }
 
 /// The same over a log that is open. Nothing is told but on the output.
-fn serve_log<
+fn start_and_greet<
     L: Refusing + Renewing + SpansCalls + Drop,
     D: SharedNodes + Drop,
     R: Read + Drop,
@@ -157,7 +157,7 @@ fn serve_log<
     let node = log.node;
     match log.start(alloc, &mut no_lines) {
         Ok(journal) => match NodeAnswerer::cleaned(node, journal, dead, &mut no_lines) {
-            Ok(answerer) => serve_started(alloc, answerer, input, output),
+            Ok(answerer) => greet_and_answer(alloc, answerer, input, output),
             Err(halt) => refuse_start(alloc, halt, output),
         },
         Err(halt) => refuse_start(alloc, halt, output),
@@ -182,7 +182,7 @@ fn greet<W: Write>(alloc: Global, node: u64, output: &mut W) -> Result<(), Serve
 }
 
 /// Greets, answers each line, closes what is open, and gives back what the node has still.
-fn serve_started<
+fn greet_and_answer<
     S: Viewed + Resuming + Troubled + Drop,
     D: SharedNodes + Drop,
     R: Read + Drop,
@@ -195,7 +195,7 @@ fn serve_started<
         answerer result bytes (W.contents output.old) (W.contents output.new) }
 {
     match greet(alloc, answerer.node(), output) {
-        Ok(()) => serve_greeted(alloc, answerer, input, output),
+        Ok(()) => answer_greeted(alloc, answerer, input, output),
         Err(_) => {
             drop(answerer.finish());
             FAULT
@@ -204,7 +204,7 @@ fn serve_started<
 }
 
 /// The same without the greeting.
-fn serve_greeted<
+fn answer_greeted<
     S: Viewed + Resuming + Troubled + Drop,
     D: SharedNodes + Drop,
     R: Read + Drop,
@@ -218,13 +218,13 @@ fn serve_greeted<
 {
     let mut no_lines = Reports::new(alloc, "", io::sink());
     let node = answerer.node();
-    let (served, storage) = serve_escaped(answerer, input, output, &mut no_lines);
+    let (served, storage) = answer_escaped_input(answerer, input, output, &mut no_lines);
     let ended = settle_end(node, served, storage, &mut no_lines);
     report_end(ended, &mut no_lines)
 }
 
 /// Answers each escaped line of an input, and closes all that is open then, whatever ended it. Gives the storage back.
-pub fn serve_escaped<
+pub fn answer_escaped_input<
     S: Viewed + Resuming + Troubled,
     D: SharedNodes + Drop,
     R: Read + Drop,
@@ -248,6 +248,6 @@ pub fn serve_escaped<
             lines: EscapedLines,
         },
     };
-    let ended = serve_until(input, output, &mut answerer, reports, &lines);
+    let ended = answer_until(input, output, &mut answerer, reports, &lines);
     (ended, answerer.finish())
 }

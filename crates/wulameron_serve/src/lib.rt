@@ -12,18 +12,18 @@
 //! `own_lines::OwnLines` answers a line of which the third term is `-` as the line that has the node's number there
 //! (`AnswersNamed`), and any other as it is.
 //!
-//! `run::serve` writes the transcript by these answers as long as the log can be used, and closes what is open
+//! `run::answer_input` writes the transcript by these answers as long as the log can be used, and closes what is open
 //! (`Serves`). A line that is no command has the reply `error: ` with what is wrong (`LinesBy`), and ends the
 //! program only with `--strict` (`MayEnd`). `NodeAnswerer::cleaned` ends by the log before the input is touched.
-//! `run::serve_log` starts the node first (`StartsLog`). Its line and status are exact (`status_with`). Of `run::run`,
+//! `run::start_and_answer` starts the node first (`StartsLog`). Its line and status are exact (`status_with`). Of `run::run`,
 //! which opens the file, only that it is safe is proved.
 //!
 //! A node is also asked (`asked`): commands of escaped lines have escaped replies, and questions about the nodes, and
 //! of what dead ones have, their answers (`AsksWith`). `cleaning::answer_clean` gives back what dead nodes have, one after
 //! the other, and tells the sums (`CleansAsked`); a rehearsal does it in a world of its own (`RehearsesAsked`).
-//! `escaped::serve_escaped` writes the transcript of such lines (`ServesEscaped`). Where the log can't be used any more
+//! `escaped::answer_escaped_input` writes the transcript of such lines (`ServesEscaped`). Where the log can't be used any more
 //! after one, it is told why in place of its reply (`TellsTrouble`), and no later line is answered. The private
-//! `escaped::serve_log` starts the node and greets first, or tells why not (`ServesEscapedLog`). `gone::refuse_session`
+//! `escaped::start_and_greet` starts the node and greets first, or tells why not (`ServesEscapedLog`). `gone::refuse_session`
 //! tells that the sessions of before are gone.
 //!
 //! The command that makes one call, and holds what it gives until an input ends, is here too.

@@ -16,7 +16,7 @@ use wulameron_place::trouble::Troubled;
 
 /// Answers each line of an input as such lines are, until it ends as in `serve_by`, or the log can't be used any more.
 /// It writes these answers and nothing else, and tells what goes wrong at the log, after the line at which it does.
-pub fn serve_until<A: Troubled, L: Lines<A>, R: Read + Drop, W: Write, E: Write>(
+pub fn answer_until<A: Troubled, L: Lines<A>, R: Read + Drop, W: Write, E: Write>(
     input: R,
     output: &mut W,
     answerer: &mut A,
@@ -33,7 +33,7 @@ pub fn serve_until<A: Troubled, L: Lines<A>, R: Read + Drop, W: Write, E: Write>
     ensures log { IsEndOf (A.trouble answerer.new) result }
 {
     match BufReader::new(reports.alloc(), input) {
-        Ok(mut reader) => serve_lines(&mut reader, output, answerer, reports, lines),
+        Ok(mut reader) => answer_each(&mut reader, output, answerer, reports, lines),
         Err(error) => {
             let fault = write_failure(ServeError::of_reading(&error), output);
             Err(Halt::Serving(fault))
@@ -42,7 +42,7 @@ pub fn serve_until<A: Troubled, L: Lines<A>, R: Read + Drop, W: Write, E: Write>
 }
 
 /// Answers each line that a reader has left, and writes a failure.
-fn serve_lines<A: Troubled, L: Lines<A>, R: BufRead, W: Write, E: Write>(
+fn answer_each<A: Troubled, L: Lines<A>, R: BufRead, W: Write, E: Write>(
     reader: &mut R,
     output: &mut W,
     answerer: &mut A,

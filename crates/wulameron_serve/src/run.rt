@@ -8,7 +8,7 @@ ghost use Rattle.wulameron_serve.specs.Served.{EndsSettled, Serves, ServesLog};
 ghost use Rattle.wulameron_serve.specs.Shared.{StandsFor};
 
 use crate::answerer::NodeAnswerer;
-use crate::lines::serve_until;
+use crate::lines::answer_until;
 use crate::own_lines::{OwnLines, told_end};
 use crate::view::Viewed;
 use explain_serve::explainer::with_room;
@@ -55,7 +55,14 @@ pub fn run<
                 place,
                 cleans: run.cleans,
             };
-            let ended = serve_log(log.for_node(node), dead, run, input, output, &mut reports);
+            let ended = start_and_answer(
+                log.for_node(node),
+                dead,
+                run,
+                input,
+                output,
+                &mut reports,
+            );
             report_end(told_end(rt.alloc(), node, ended), &mut reports)
         }
     };
@@ -102,7 +109,7 @@ pub(crate) fn report_end<E: Write>(ended: Result<Ending, Halt>, reports: &mut Re
 
 /// Starts the node over its log, gives back what dead nodes have, answers each line of an input for it, closes all that
 /// is open then, whatever ended it, and gives back what the node still has. What goes wrong at the log is told.
-fn serve_log<
+fn start_and_answer<
     L: Refusing + Renewing + SpansCalls + Drop,
     D: DeadNodes + Drop,
     R: Read + Drop,
@@ -127,14 +134,14 @@ fn serve_log<
     let journal = log.start(alloc, reports)?;
     if !run.explains {
         let answerer = NodeAnswerer::cleaned(node, journal, dead, reports)?;
-        let (served, journal) = serve(answerer, input, output, reports, wrong_lines);
+        let (served, journal) = answer_input(answerer, input, output, reports, wrong_lines);
         return settle_end(node, served, journal, reports);
     }
     let Ok(traced) = with_room(alloc, journal) else {
         return Err(Halt::Serving(ServeError::OutOfMemory));
     };
     let answerer = NodeAnswerer::cleaned(node, traced, dead, reports)?;
-    let (served, traced) = serve(answerer, input, output, reports, wrong_lines);
+    let (served, traced) = answer_input(answerer, input, output, reports, wrong_lines);
     settle_end(node, served, traced, reports)
 }
 
@@ -164,7 +171,7 @@ pub(crate) fn settle_end<S: WorldStorage + Troubled + Drop, E: Write>(
 }
 
 /// Answers each line of an input, and closes all that is open then, whatever ended it. Gives the storage back.
-pub fn serve<
+pub fn answer_input<
     S: Viewed + Resuming + Troubled,
     D: DeadNodes + Drop,
     R: Read + Drop,
@@ -185,6 +192,6 @@ pub fn serve<
 {
     let mut answerer = answerer;
     let lines = OwnLines { lines: wrong_lines };
-    let ended = serve_until(input, output, &mut answerer, reports, &lines);
+    let ended = answer_until(input, output, &mut answerer, reports, &lines);
     (ended, answerer.finish())
 }

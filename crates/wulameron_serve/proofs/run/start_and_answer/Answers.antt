@@ -14,7 +14,7 @@ use Rattle.wulameron_place.specs.declared.trouble.Trouble.{Trouble}
 use Rattle.wulameron_serve.specs.Served.{Serves, explained, plain, trouble_at}
 use Rattle.wulameron_serve.specs.Shared.{fresh_session}
 use Rattle.wulameron_serve.specs.Views.{WritesExplained, WritesPlain}
-use Rattle.wulameron_serve.proofs.run.serve_log.Goals as goal
+use Rattle.wulameron_serve.proofs.run.start_and_answer.Goals as goal
 
 -- It serves for the node and the wrong lines that these are.
 
@@ -36,11 +36,11 @@ returns-then-not-run g c = λ bytes known.
       started = c.in_ok-journal.ensures.ok;
       first = own_state answerer.session;
       cleaned = c.in_ok-answerer.ensures.shows;
-      served = c.serve-served.result.0;
-      left = c.serve-served.result.1;
+      served = c.answer_input-served.result.0;
+      left = c.answer_input-served.result.1;
       settles = c.settle_end.ensures;
-      serves = serves_so g.L.Log.contents g.L.Log.held (trouble_at g.L.Refusing.refused) (own_state answerer.session) c.serve-served.result.0 c.serve-served.result.1 bytes
-          (g.W.Write.contents c.args.output.now) (g.W.Write.contents c.serve-served.new.output) _ _ _ _ c.in_ok-answerer.ensures.node c.wrong_lines_of-wrong_lines.ensures (c.serve-served.ensures bytes known);
+      serves = serves_so g.L.Log.contents g.L.Log.held (trouble_at g.L.Refusing.refused) (own_state answerer.session) c.answer_input-served.result.0 c.answer_input-served.result.1 bytes
+          (g.W.Write.contents c.args.output.now) (g.W.Write.contents c.answer_input-served.new.output) _ _ _ _ c.in_ok-answerer.ensures.node c.wrong_lines_of-wrong_lines.ensures (c.answer_input-served.ensures bytes known);
     })
 
 pub returns : goal.returns
@@ -51,9 +51,9 @@ returns g c = λ bytes known.
       started = c.in_ok-journal.ensures.ok;
       first = own_state answerer.session;
       cleaned = subst (λ (t : TracedState (JournalState g.row.L.Denot)). SpansSession (SpansTraced ShowsOthers) (fresh_session t) (own_state answerer.session)) c.in-Ok.ensures c.in_ok-answerer-2.ensures.shows;
-      served = c.serve-served-2.result.0;
-      left = c.serve-served-2.result.1;
+      served = c.answer_input-served-2.result.0;
+      left = c.answer_input-served-2.result.1;
       settles = c.settle_end-2.ensures;
-      serves = explains_so g.L.Log.contents g.L.Log.held (trouble_at g.L.Refusing.refused) (own_state answerer.session) c.serve-served-2.result.0 c.serve-served-2.result.1 bytes
-          (g.W.Write.contents c.args.output.now) (g.W.Write.contents c.serve-served-2.new.output) _ _ _ _ c.in_ok-answerer-2.ensures.node c.wrong_lines_of-wrong_lines.ensures (c.serve-served-2.ensures bytes known);
+      serves = explains_so g.L.Log.contents g.L.Log.held (trouble_at g.L.Refusing.refused) (own_state answerer.session) c.answer_input-served-2.result.0 c.answer_input-served-2.result.1 bytes
+          (g.W.Write.contents c.args.output.now) (g.W.Write.contents c.answer_input-served-2.new.output) _ _ _ _ c.in_ok-answerer-2.ensures.node c.wrong_lines_of-wrong_lines.ensures (c.answer_input-served-2.ensures bytes known);
     })

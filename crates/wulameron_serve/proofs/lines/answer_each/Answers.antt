@@ -4,7 +4,7 @@ use Rattle.negotiate_serve.proofs.Answering.{served, served_to_failure}
 use Rattle.wulameron_place.specs.declared.halt.Halt.{Halt}
 use Rattle.wulameron_serve.specs.Lines.{AnswersWhileUsable, IsEndOf, seen_as}
 use Rattle.wulameron_serve.proofs.UntilHalted.{served_to_halt}
-use Rattle.wulameron_serve.proofs.lines.serve_lines.Goals as goal
+use Rattle.wulameron_serve.proofs.lines.answer_each.Goals as goal
 
 pub returns-in-Ok-clause-serves : goal.returns-in-Ok-clause-serves
 returns-in-Ok-clause-serves g c = λ input known.

@@ -1,12 +1,12 @@
 use Rattle.std.proofs.Common.{ap, ◌∙◌}
 use Rattle.negotiate_serve.proofs.Answering.{read_ahead, served_nothing}
 use Rattle.wulameron_serve.specs.Lines.{AnswersWhileUsable}
-use Rattle.wulameron_serve.proofs.lines.serve_until.Goals as goal
+use Rattle.wulameron_serve.proofs.lines.answer_until.Goals as goal
 
 pub returns-in-Ok-clause-serves : goal.returns-in-Ok-clause-serves
 returns-in-Ok-clause-serves g c = λ bytes known.
     let made = c.in-Ok.ensures in
-    c.serve_lines.ensures.serves bytes
+    c.answer_each.ensures.serves bytes
     (read_ahead _ _ (g.R.Read.remaining c.in-Ok.reader.inner) bytes made.capacity made.empty (ap g.R.Read.remaining made.inner ∙ known))
 
 pub returns-in-Err-clause-serves : goal.returns-in-Err-clause-serves
