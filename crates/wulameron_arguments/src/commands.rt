@@ -1,4 +1,4 @@
-//! Which words the program takes.
+//! Which words the program takes: a row for each command, and one for each option and word of it.
 
 use clap::{Arg, ArgAction, Command, value_parser};
 use std::alloc::{AllocError, Global};
@@ -9,237 +9,327 @@ const VERSION: &str = "0.1.0";
 /// The words of the patterns.
 const PATTERNS: &[&str] = &["event", "pubsub", "rr"];
 
-/// Where a help has the options that every command takes, but `--at`: behind the command's own.
-const LAST: usize = 100;
+/// The words of the calls.
+const CALLS: &[&str] = &["create", "open", "open_or_create"];
 
 /// When texts have colours.
 const COLOURS: &[&str] = &["auto", "always", "never"];
 
-/// The words of the calls.
-const CALLS: &[&str] = &["create", "open", "open_or_create"];
+/// Where a help has the options that every command takes, except `--at`: behind the command's own.
+const LAST: usize = 100;
+
+/// How something is given.
+#[derive(Clone, Copy)]
+enum Given {
+    /// By an option that takes no value.
+    Flag,
+    /// By an option that takes a text, which a help calls so.
+    Text(&'static str),
+    /// By an option that takes a number, the second if it is left out.
+    Number(&'static str, Option<&'static str>),
+    /// By an option that takes one of these words, the last if it is left out.
+    OneOf(&'static str, &'static [&'static str], Option<&'static str>),
+    /// By its place, as a text.
+    Word(&'static str),
+    /// By its place, as one of these words.
+    WordOf(&'static str, &'static [&'static str]),
+    /// By its place, as a number, which may be left out.
+    MaybeNumber(&'static str),
+    /// By its place, as any number of texts up to the last.
+    Words(&'static str),
+}
+
+/// An option, or a word by its place: its name, how it is given, and its help.
+#[derive(Clone, Copy)]
+struct Row(&'static str, Given, &'static str);
+
+/// A command.
+#[derive(Clone, Copy)]
+struct CommandRow {
+    name: &'static str,
+    about: &'static str,
+    rows: &'static [Row],
+}
+
+const SYNC: Row = Row(
+    "sync",
+    Given::Flag,
+    "Writes each entry to the disk before it is answered",
+);
+
+const GROUP: Row = Row(
+    "group",
+    Given::Flag,
+    "Makes files that their group may read and write",
+);
+
+const NODE: Row = Row(
+    "node",
+    Given::Number("NUMBER", None),
+    "The node of this process; by default the lowest free one",
+);
+
+const NAME: Row = Row("name", Given::Word("NAME"), "The name of the service");
+
+const JSON: Row = Row("json", Given::Flag, "Prints JSON");
+
+const COLOR: Row = Row(
+    "color",
+    Given::OneOf("WHEN", COLOURS, Some("auto")),
+    "When to print dead nodes in red; auto means on a terminal without NO_COLOR",
+);
+
+const JSON_LINES: Row = Row(
+    "json-lines",
+    Given::Flag,
+    "Prints one line of JSON for each",
+);
+
+const QUIET: Row = Row(
+    "quiet",
+    Given::Flag,
+    "Prints only names, or numbers of nodes",
+);
+
+/// The options that don't go together.
+const CONFLICTS: &[(&str, &str)] = &[
+    ("escaped", "strict"),
+    ("escaped", "explain"),
+    ("json-lines", "json"),
+    ("quiet", "json"),
+    ("quiet", "json-lines"),
+];
+
+/// The commands, in the order of the help.
+const COMMANDS: &[CommandRow] = &[
+    CommandRow {
+        name: "run",
+        about: "Answers lines of the standard input, in the name of one node",
+        rows: &[
+            SYNC,
+            GROUP,
+            NODE,
+            Row(
+                "explain",
+                Given::Flag,
+                "Explains each reply, as explain does",
+            ),
+            Row(
+                "strict",
+                Given::Flag,
+                "Ends at the first line that is no command",
+            ),
+            Row(
+                "escaped",
+                Given::Flag,
+                "For programs: escapes bytes of names, keys, values and types as %XX, and answers questions",
+            ),
+            Row(
+                "no-clean",
+                Given::Flag,
+                "Doesn't release what dead nodes have",
+            ),
+        ],
+    },
+    CommandRow {
+        name: "hold",
+        about: "Makes one call, and holds the service until the standard input ends",
+        rows: &[
+            SYNC,
+            GROUP,
+            NODE,
+            Row(
+                "pattern",
+                Given::WordOf("PATTERN", PATTERNS),
+                "The pattern of the service",
+            ),
+            Row("call", Given::WordOf("CALL", CALLS), "What the call does"),
+            NAME,
+            Row(
+                "terms",
+                Given::Words("TERM=VALUE"),
+                "The settings, attributes and requirements of the call",
+            ),
+        ],
+    },
+    CommandRow {
+        name: "list",
+        about: "Lists the services of all processes",
+        rows: &[
+            JSON,
+            COLOR,
+            JSON_LINES,
+            QUIET,
+            Row(
+                "watch",
+                Given::Flag,
+                "Lists them again at each change, until it is interrupted",
+            ),
+            Row(
+                "name",
+                Given::Text("TEXT"),
+                "Lists only services whose names have this text",
+            ),
+            Row(
+                "pattern",
+                Given::OneOf("PATTERN", PATTERNS, None),
+                "Lists only services of this pattern",
+            ),
+            Row(
+                "width",
+                Given::Number("COLUMNS", None),
+                "Cuts names so that lines fit into this many columns",
+            ),
+        ],
+    },
+    CommandRow {
+        name: "show",
+        about: "Shows what was agreed for a service, and which nodes have it",
+        rows: &[
+            JSON,
+            COLOR,
+            NAME,
+            Row(
+                "pattern",
+                Given::OneOf("PATTERN", PATTERNS, None),
+                "The service's pattern, if several services have this name",
+            ),
+        ],
+    },
+    CommandRow {
+        name: "nodes",
+        about: "Lists the nodes, and whether each is alive",
+        rows: &[JSON, COLOR, JSON_LINES, QUIET],
+    },
+    CommandRow {
+        name: "clean",
+        about: "Releases what dead nodes have",
+        rows: &[
+            SYNC,
+            GROUP,
+            Row(
+                "node",
+                Given::MaybeNumber("NODE"),
+                "The dead node to clean up for; without it, every dead node",
+            ),
+            Row(
+                "dry-run",
+                Given::Flag,
+                "Prints what would be released, and changes nothing",
+            ),
+        ],
+    },
+    CommandRow {
+        name: "log",
+        about: "Prints the entries of the log",
+        rows: &[
+            Row(
+                "from",
+                Given::Number("NUMBER", Some("0")),
+                "The number of the first entry that is printed",
+            ),
+            Row(
+                "follow",
+                Given::Flag,
+                "Waits for more entries until it is interrupted",
+            ),
+        ],
+    },
+    CommandRow {
+        name: "watch",
+        about: "Prints each change of a service as it comes, until it is interrupted",
+        rows: &[JSON],
+    },
+    CommandRow {
+        name: "check",
+        about: "Checks whether the log is sound",
+        rows: &[],
+    },
+];
 
 /// What the program takes. `home` is the log where no word names one.
 pub(crate) fn command<'a>(alloc: Global, home: Option<&'a str>) -> Result<Command<'a>, AllocError> {
-    let command = Command::new(alloc, "wulameron")
+    let mut command = Command::new(alloc, "wulameron")
         .version(VERSION)
         .about("Creates and opens named services over a log that processes share")
         .subcommand_required(true)
         .arg(at(alloc, home))?
         .arg(wait(alloc))?
-        .arg(psql(alloc))?
-        .subcommand(run(alloc)?)?
-        .subcommand(hold(alloc)?)?;
-    with_views(alloc, command)?
-        .subcommand(clean(alloc)?)?
-        .subcommand(log(alloc)?)?
-        .subcommand(watch(alloc)?)?
-        .subcommand(check(alloc))
+        .arg(psql(alloc))?;
+    for row in COMMANDS {
+        command = command.subcommand(command_of(alloc, row)?)?;
+    }
+    Ok(command)
 }
 
-/// The same with the commands that show what stands.
-fn with_views<'a>(alloc: Global, command: Command<'a>) -> Result<Command<'a>, AllocError> {
-    command
-        .subcommand(list(alloc)?)?
-        .subcommand(show(alloc)?)?
-        .subcommand(nodes(alloc)?)
+/// The command of a row, which has the program's version.
+fn command_of<'a>(alloc: Global, row: &CommandRow) -> Result<Command<'a>, AllocError> {
+    let mut command = Command::new(alloc, row.name)
+        .version(VERSION)
+        .about(row.about);
+    for row in row.rows {
+        command = command.arg(arg_of(alloc, row)?)?;
+    }
+    Ok(command)
 }
 
-/// A command, which has the program's version.
-fn command_of<'a>(alloc: Global, name: &'a str, about: &'a str) -> Command<'a> {
-    Command::new(alloc, name).version(VERSION).about(about)
+/// The option or word of a row.
+fn arg_of<'a>(alloc: Global, row: &Row) -> Result<Arg<'a>, AllocError> {
+    let Row(name, given, help) = *row;
+    let mut arg = with_value(Arg::new(alloc, name).help(help), name, given);
+    for &(option, other) in CONFLICTS {
+        if option == name {
+            arg = arg.conflicts_with(other)?;
+        }
+    }
+    Ok(arg)
 }
 
-fn run<'a>(alloc: Global) -> Result<Command<'a>, AllocError> {
-    let command = command_of(
-        alloc,
-        "run",
-        "Answers the lines of the standard input, each in the node's name",
-    );
-    with_making(alloc, command)?
-        .arg(node(alloc))?
-        .arg(flag(
-            alloc,
-            "explain",
-            "Explains each reply, as the program explain does",
-        ))?
-        .arg(flag(alloc, "strict", "Ends at the first line that is no command"))?
-        .arg(escaped(alloc)?)?
-        .arg(no_clean(alloc))
+/// An option or a word with the value that it takes.
+fn with_value<'a>(arg: Arg<'a>, name: &'static str, given: Given) -> Arg<'a> {
+    let arg = arg.action(ArgAction::Set);
+    match given {
+        Given::Flag => flag(arg.long(name), name),
+        Given::Text(value) => arg.long(name).value_name(value),
+        Given::Number(value, default) => {
+            with_default(number(arg.long(name).value_name(value)), default)
+        }
+        Given::OneOf(value, words, default) => {
+            with_default(
+                arg.long(name).value_name(value).value_parser(words),
+                default,
+            )
+        }
+        Given::Word(value) => arg.required(true).value_name(value),
+        Given::WordOf(value, words) => arg.required(true).value_name(value).value_parser(words),
+        Given::MaybeNumber(value) => number(arg.value_name(value)),
+        Given::Words(value) => arg
+            .action(ArgAction::Append)
+            .num_args(0..)
+            .value_name(value),
+    }
 }
 
-/// That lines are escaped, and may be questions.
-fn escaped<'a>(alloc: Global) -> Result<Arg<'a>, AllocError> {
-    flag(
-        alloc,
-        "escaped",
-        "Reads and writes lines with %XX for a byte in names, keys, values and types, and answers questions: for programs",
-    )
-    .conflicts_with("strict")?
-    .conflicts_with("explain")
+/// An option that takes no value.
+fn flag<'a>(arg: Arg<'a>, name: &'static str) -> Arg<'a> {
+    let arg = arg.action(ArgAction::SetTrue);
+    if name == "quiet" {
+        return arg.short('q');
+    }
+    arg
 }
 
-fn hold<'a>(alloc: Global) -> Result<Command<'a>, AllocError> {
-    let command = command_of(
-        alloc,
-        "hold",
-        "Makes one call, and holds what it gives until the standard input ends",
-    );
-    let pattern = word(alloc, "pattern", "PATTERN", "The pattern of the service").value_parser(
-        PATTERNS,
-    );
-    let call = word(alloc, "call", "CALL", "What is done").value_parser(CALLS);
-    with_making(alloc, command)?
-        .arg(node(alloc))?
-        .arg(pattern)?
-        .arg(call)?
-        .arg(word(alloc, "name", "NAME", "The name of the service"))?
-        .arg(terms(alloc))
+/// The same with what it is if it is left out.
+fn with_default<'a>(arg: Arg<'a>, default: Option<&'static str>) -> Arg<'a> {
+    match default {
+        Some(value) => arg.default_value(value),
+        None => arg,
+    }
 }
 
-fn list<'a>(alloc: Global) -> Result<Command<'a>, AllocError> {
-    let command = command_of(alloc, "list", "Lists the services of all processes");
-    let command = with_forms(alloc, command)?.arg(flag(
-        alloc,
-        "watch",
-        "Lists them anew with each change, until it is interrupted",
-    ))?;
-    with_filter(alloc, command)?.arg(width(alloc))
-}
-
-/// The same with which services are listed.
-fn with_filter<'a>(alloc: Global, command: Command<'a>) -> Result<Command<'a>, AllocError> {
-    let name = Arg::new(alloc, "name")
-        .long("name")
-        .action(ArgAction::Set)
-        .value_name("TEXT")
-        .help("Lists those that have this text in their names");
-    let pattern = pattern(alloc).help("Lists those of this pattern");
-    command.arg(name)?.arg(pattern)
-}
-
-/// The pattern of services.
-fn pattern<'a>(alloc: Global) -> Arg<'a> {
-    Arg::new(alloc, "pattern")
-        .long("pattern")
-        .action(ArgAction::Set)
-        .value_name("PATTERN")
-        .value_parser(PATTERNS)
-}
-
-/// How many columns a line may have.
-fn width<'a>(alloc: Global) -> Arg<'a> {
-    Arg::new(alloc, "width")
-        .long("width")
-        .action(ArgAction::Set)
-        .value_name("COLUMNS")
-        .value_parser(value_parser!(u64))
-        .help("Cuts names so that a line of the table has at most so many columns")
-}
-
-fn show<'a>(alloc: Global) -> Result<Command<'a>, AllocError> {
-    let command = command_of(
-        alloc,
-        "show",
-        "Shows what was agreed of a service, and who has it",
-    );
-    let pattern = pattern(alloc).help("Its pattern, where services of several have the name");
-    with_colours(alloc, command)?
-        .arg(word(alloc, "name", "NAME", "The name of the service"))?
-        .arg(pattern)
-}
-
-fn nodes<'a>(alloc: Global) -> Result<Command<'a>, AllocError> {
-    let command = command_of(alloc, "nodes", "Lists the nodes, and whether each is alive");
-    with_forms(alloc, command)
-}
-
-fn clean<'a>(alloc: Global) -> Result<Command<'a>, AllocError> {
-    let command = command_of(
-        alloc,
-        "clean",
-        "Gives back what nodes have whose processes are gone",
-    );
-    let node = Arg::new(alloc, "node")
-        .action(ArgAction::Set)
-        .value_name("NODE")
-        .value_parser(value_parser!(u64))
-        .help("The node it is for; each that is dead without it");
-    with_making(alloc, command)?.arg(node)?.arg(flag(
-        alloc,
-        "dry-run",
-        "Prints what would be given back, and changes nothing",
-    ))
-}
-
-fn log<'a>(alloc: Global) -> Result<Command<'a>, AllocError> {
-    let command = command_of(alloc, "log", "Prints the entries of the log");
-    let from = Arg::new(alloc, "from")
-        .long("from")
-        .action(ArgAction::Set)
-        .value_name("NUMBER")
-        .value_parser(value_parser!(u64))
-        .default_value("0")
-        .help("The number of the first entry that is printed");
-    command.arg(from)?.arg(flag(
-        alloc,
-        "follow",
-        "Waits for more entries until it is interrupted",
-    ))
-}
-
-fn watch<'a>(alloc: Global) -> Result<Command<'a>, AllocError> {
-    let command = command_of(
-        alloc,
-        "watch",
-        "Prints each change of a service as it comes, until it is interrupted",
-    );
-    with_json(alloc, command)
-}
-
-fn check<'a>(alloc: Global) -> Command<'a> {
-    command_of(alloc, "check", "Checks whether the log is sound")
-}
-
-/// The same over a log that is made where there is none.
-fn with_making<'a>(alloc: Global, command: Command<'a>) -> Result<Command<'a>, AllocError> {
-    command
-        .arg(flag(
-            alloc,
-            "sync",
-            "Has each entry on the disk before it is answered",
-        ))?
-        .arg(flag(
-            alloc,
-            "group",
-            "Lets the file's group read and write a file that is made",
-        ))
-}
-
-/// The same over a log, printed as JSON where that is asked for.
-fn with_json<'a>(alloc: Global, command: Command<'a>) -> Result<Command<'a>, AllocError> {
-    command.arg(flag(alloc, "json", "Prints JSON"))
-}
-
-/// The same, in colours where that is asked for.
-fn with_colours<'a>(alloc: Global, command: Command<'a>) -> Result<Command<'a>, AllocError> {
-    let colour = Arg::new(alloc, "color")
-        .long("color")
-        .action(ArgAction::Set)
-        .value_name("WHEN")
-        .value_parser(COLOURS)
-        .default_value("auto")
-        .help("When what is dead is red; auto: on a terminal, unless NO_COLOR is set");
-    with_json(alloc, command)?.arg(colour)
-}
-
-/// The same in each form.
-fn with_forms<'a>(alloc: Global, command: Command<'a>) -> Result<Command<'a>, AllocError> {
-    let lines = flag(alloc, "json-lines", "Prints a line of JSON for each").conflicts_with("json")?;
-    let quiet = flag(alloc, "quiet", "Prints only what names each")
-        .short('q')
-        .conflicts_with("json")?
-        .conflicts_with("json-lines")?;
-    with_colours(alloc, command)?.arg(lines)?.arg(quiet)
+/// The same of a number.
+fn number<'a>(arg: Arg<'a>) -> Arg<'a> {
+    arg.value_parser(value_parser!(u64))
 }
 
 /// The log, before a command or after it.
@@ -256,70 +346,24 @@ fn at<'a>(alloc: Global, home: Option<&'a str>) -> Arg<'a> {
     }
 }
 
-/// The pipes to the database's client.
-fn psql<'a>(alloc: Global) -> Arg<'a> {
-    Arg::new(alloc, "psql")
-        .long("psql")
-        .action(ArgAction::Set)
-        .value_name("PIPES")
-        .global(true)
-        .display_order(LAST + 1)
-        .help("The pipes to psql, which wulameron-postgres names")
-}
-
-/// The node, which may be left out.
-fn node<'a>(alloc: Global) -> Arg<'a> {
-    Arg::new(alloc, "node")
-        .long("node")
-        .action(ArgAction::Set)
-        .value_name("NUMBER")
-        .value_parser(value_parser!(u64))
-        .help("The node of this process; the lowest free one without it")
-}
-
-/// That what dead nodes have isn't given back.
-fn no_clean<'a>(alloc: Global) -> Arg<'a> {
-    flag(
-        alloc,
-        "no-clean",
-        "Leaves what nodes have whose processes are gone",
-    )
-}
-
 /// How long it is tried to hold the log.
 fn wait<'a>(alloc: Global) -> Arg<'a> {
-    Arg::new(alloc, "wait")
-        .long("wait")
-        .action(ArgAction::Set)
-        .value_name("MILLISECONDS")
-        .value_parser(value_parser!(u64))
-        .global(true)
-        .display_order(LAST)
+    number(behind(alloc, "wait", "MILLISECONDS", LAST))
         .default_value("500")
         .help("How long to try while others hold the log")
 }
 
-/// The terms of a call.
-fn terms<'a>(alloc: Global) -> Arg<'a> {
-    Arg::new(alloc, "terms")
-        .action(ArgAction::Append)
-        .num_args(0..)
-        .value_name("TERM=VALUE")
-        .help("The settings, attributes and requirements of the call")
+/// The pipes to the database's client.
+fn psql<'a>(alloc: Global) -> Arg<'a> {
+    behind(alloc, "psql", "PIPES", LAST + 1).help("Set by wulameron-postgres: the pipes to psql")
 }
 
-/// A word that has to be given, by its place.
-fn word<'a>(alloc: Global, name: &'a str, value: &'a str, help: &'a str) -> Arg<'a> {
-    Arg::new(alloc, name)
-        .required(true)
-        .action(ArgAction::Set)
-        .value_name(value)
-        .help(help)
-}
-
-fn flag<'a>(alloc: Global, name: &'a str, help: &'a str) -> Arg<'a> {
+/// An option of every command, of which the help is behind those of the command.
+fn behind<'a>(alloc: Global, name: &'static str, value: &'static str, order: usize) -> Arg<'a> {
     Arg::new(alloc, name)
         .long(name)
-        .action(ArgAction::SetTrue)
-        .help(help)
+        .action(ArgAction::Set)
+        .value_name(value)
+        .global(true)
+        .display_order(order)
 }
