@@ -29,7 +29,6 @@ pub const NOTHING_REFUSED: Refusals = Refusals {
 };
 
 /// A file in memory. What others append stands there when the lock is granted the first time.
-#[derive(Drop)]
 pub struct MemoryFile {
     alloc: Global,
     bytes: Vec<u8>,
@@ -39,6 +38,22 @@ pub struct MemoryFile {
     others: Vec<u8>,
     refusals: Refusals,
     piece: usize,
+}
+
+// Written out, so that a proof of what lets one go doesn't take its fields apart.
+impl Drop for MemoryFile {
+    fn drop(self) {
+        let MemoryFile {
+            alloc: _,
+            bytes: _,
+            standing: _,
+            is_locked: _,
+            is_synchronized: _,
+            others: _,
+            refusals: _,
+            piece: _,
+        } = self;
+    }
 }
 
 /// The bytes with these written there.

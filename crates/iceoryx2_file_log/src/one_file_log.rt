@@ -21,7 +21,6 @@ use std::thread;
 use std::time::{Clock, Duration};
 
 /// A handle of a log in one file.
-#[derive(Drop)]
 pub struct OneFileLog<R, M: Medium> {
     rt: R,
     medium: M,
@@ -35,6 +34,22 @@ pub struct OneFileLog<R, M: Medium> {
     patience: Duration,
     /// How many pauses each wait has.
     pauses: u64,
+}
+
+// Written out, so that a proof of what lets one go doesn't take its fields apart.
+impl<R: Drop, M: Medium + Drop> Drop for OneFileLog<R, M> {
+    fn drop(self) {
+        let OneFileLog {
+            rt: _,
+            medium: _,
+            header: _,
+            cursor: _,
+            is_locked: _,
+            synchronizes: _,
+            patience: _,
+            pauses: _,
+        } = self;
+    }
 }
 
 impl<R, M: Medium> Model for OneFileLog<R, M> {

@@ -75,7 +75,6 @@ pub enum Mode {
 }
 
 /// A handle of a log in a database.
-#[derive(Drop)]
 pub struct PostgresLog<R, W> {
     alloc: Global,
     questions: W,
@@ -95,6 +94,26 @@ pub struct PostgresLog<R, W> {
     fault: Option<PostgresFault>,
     /// The number of entries from which the next compaction is tried.
     tries_from: u64,
+}
+
+// Written out, so that a proof of what lets one go doesn't take its fields apart.
+impl<R: Drop, W: Drop> Drop for PostgresLog<R, W> {
+    fn drop(self) {
+        let PostgresLog {
+            alloc: _,
+            questions: _,
+            replies: _,
+            name: _,
+            patience_millis: _,
+            at: _,
+            mode: _,
+            until: _,
+            ahead: _,
+            is_shown: _,
+            fault: _,
+            tries_from: _,
+        } = self;
+    }
 }
 
 /// From how many entries on the first compaction is tried behind a snapshot of so many.

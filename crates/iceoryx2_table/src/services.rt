@@ -32,12 +32,23 @@ use std::alloc::{AllocError, Global};
 use std::marker::Model;
 
 /// The rows, the segments, the phases and the counter.
-#[derive(Drop)]
 pub struct Services {
     rows: SortedVec<ServiceHash, StoredRow>,
     segments: SortedVec<ServiceHash, StoredSegment>,
     phases: SortedVec<(Participant, ServiceHash), Phase>,
     counter: u64,
+}
+
+// Written out, so that a proof of what lets one go doesn't take its fields apart.
+impl Drop for Services {
+    fn drop(self) {
+        let Services {
+            rows: _,
+            segments: _,
+            phases: _,
+            counter: _,
+        } = self;
+    }
 }
 
 impl Model for Services {

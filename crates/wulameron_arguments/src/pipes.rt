@@ -23,10 +23,16 @@ struct Again {
 
 /// The pipes to the client of a database. They are to one client after the other: whoever has a reference to them writes
 /// to the last one, and reads from it.
-#[derive(Drop)]
 pub struct Pipes {
     ends: RefCell<Option<Ends>>,
     again: Option<Again>,
+}
+
+// Written out, so that a proof of what lets one go doesn't take its fields apart.
+impl Drop for Pipes {
+    fn drop(self) {
+        let Pipes { ends: _, again: _ } = self;
+    }
 }
 
 impl fmt::Debug for Pipes {

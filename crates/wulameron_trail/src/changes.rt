@@ -22,10 +22,20 @@ use std::alloc::{AllocError, Global};
 use wulameron_view::list_text::term_of;
 
 /// A service that is published.
-#[derive(Debug, Drop)]
+#[derive(Debug)]
 pub struct Published {
     pub number: u64,
     pub description: StaticConfig,
+}
+
+// Written out, so that a proof of what lets one go doesn't take its fields apart.
+impl Drop for Published {
+    fn drop(self) {
+        let Published {
+            number: _,
+            description: _,
+        } = self;
+    }
 }
 
 /// What stands of an entry's service.
@@ -51,13 +61,25 @@ pub enum Happening {
 }
 
 /// What an entry changes.
-#[derive(Debug, Drop)]
+#[derive(Debug)]
 pub struct Change {
     pub happening: Happening,
     pub published: Published,
     pub hash: ServiceHash,
     /// The node whose entry it is.
     pub node: u64,
+}
+
+// Written out, so that a proof of what lets one go doesn't take its fields apart.
+impl Drop for Change {
+    fn drop(self) {
+        let Change {
+            happening: _,
+            published: _,
+            hash: _,
+            node: _,
+        } = self;
+    }
 }
 
 /// What stands of an entry's service in a world, before the entry or after it. `AllocError` where there is no memory

@@ -22,7 +22,6 @@ use wulameron_place::claims;
 use wulameron_view::looking::{LookError, list_in};
 
 /// Lists the services anew, where they or the states of nodes have changed.
-#[derive(Drop)]
 pub struct Listing<'a, F> {
     pub rt: &'a F,
     pub list: asked::List<'a>,
@@ -34,6 +33,20 @@ pub struct Listing<'a, F> {
     pub states: Vec<NodeStatus>,
     /// What was printed last. It is empty before the first time.
     pub last: String,
+}
+
+// Written out, so that a proof of what lets one go doesn't take its fields apart.
+impl<'a, F> Drop for Listing<'a, F> {
+    fn drop(self) {
+        let Listing {
+            rt: _,
+            list: _,
+            world: _,
+            is_stale: _,
+            states: _,
+            last: _,
+        } = self;
+    }
 }
 
 impl<'a, F: Files<File = File> + AllocGlobal> Listing<'a, F> {

@@ -29,7 +29,7 @@ pub struct Member {
 }
 
 /// A service that is published.
-#[derive(Debug, Drop)]
+#[derive(Debug)]
 pub struct Service {
     pub hash: ServiceHash,
     pub number: u64,
@@ -38,6 +38,19 @@ pub struct Service {
     pub max_nodes: u64,
     /// Each node once, by rising number.
     pub members: Vec<Member>,
+}
+
+// Written out, so that a proof of what lets one go doesn't take its fields apart.
+impl Drop for Service {
+    fn drop(self) {
+        let Service {
+            hash: _,
+            number: _,
+            description: _,
+            max_nodes: _,
+            members: _,
+        } = self;
+    }
 }
 
 /// A service that is being created: nothing but its hash and its number is known.

@@ -38,11 +38,21 @@ use std::marker::Model;
 /// which can't fail then. One that is refused, finds no memory or changes nothing doesn't ask. Where the recorder
 /// refuses, the access answers its general fault, which each of them names, and nothing has changed. With
 /// `Unrecorded` each is the node's own part alone.
-#[derive(Drop)]
 pub struct StoredWorld {
     services: Services,
     tags: SortedVec<(u64, ServiceHash), ()>,
     tickets: SortedVec<u64, Ticket>,
+}
+
+// Written out, so that a proof of what lets one go doesn't take its fields apart.
+impl Drop for StoredWorld {
+    fn drop(self) {
+        let StoredWorld {
+            services: _,
+            tags: _,
+            tickets: _,
+        } = self;
+    }
 }
 
 impl Model for StoredWorld {
