@@ -31,8 +31,9 @@ use Rattle.iceoryx2_log.specs.declared.entry.Entry.{Entry}
 use Rattle.iceoryx2_journal.specs.declared.follow.FollowError.{FollowError}
 use Rattle.iceoryx2_journal.specs.declared.follow.FollowError.TheVariants as errors
 
--- The letter is this operation of the node, granted: with the operation's numbers, for a publishing with a description whose byte
--- form the operation has, and for a release with any answer that isn't an error. Numbers are spent by no single letter.
+-- The letter is this operation of the node, granted: with the operation's numbers, for a publishing with a description
+-- whose byte form the operation has, and for a release with any answer that isn't an error. Numbers are spent by no
+-- single letter.
 abbrev pub Grants : (node : ℕ) → ServiceHash → Operation → Letter → Type 0
 Grants i h operation.MakeTag l = l ≡ letter.MakeTag i h (Ok Made)
 Grants i h operation.RemoveTag l = l ≡ letter.RemoveTag i h (Ok tt)
@@ -94,9 +95,11 @@ pub data IsFollowed (old : World) (e : Entry) (new : World) : Type 0 where
 -- The world doesn't answer what the entry has: its node's access is answered otherwise, and not for want of memory, its
 -- bytes are of no description, its numbers can't be spent, or it is a mark.
 pub data Differs (old : World) (e : Entry) (new : World) : Type 0 where
-  answered : (ready : World) (l : Letter) → Prepares e.node e.hash e.operation old ready → Asks e.node e.hash e.operation l
+  answered : (ready : World) (l : Letter)
+      → Prepares e.node e.hash e.operation old ready → Asks e.node e.hash e.operation l
       → (IsEntryOf e l → ⊥) → (LacksMemory l → ⊥) → IsOwnPart ready l new → Differs old e new
-  malformed : (n : ℕ) (bytes : List ℕ) → e.operation ≡ operation.Publish n bytes → ((d : Description) → IsForm d bytes → ⊥)
+  malformed : (n : ℕ) (bytes : List ℕ)
+      → e.operation ≡ operation.Publish n bytes → ((d : Description) → IsForm d bytes → ⊥)
       → new ≡ old → Differs old e new
   unspent : (n : ℕ) → e.operation ≡ operation.Spend n → ((v : World) → Spends e.node e.hash n old v → ⊥) → new ≡ old
       → Differs old e new

@@ -57,7 +57,8 @@ fn spend(
     hash: &ServiceHash,
     number: u64,
 ) -> Result<(), FollowError>
-    ensures { Follows (record { node = node; hash = hash.now; operation = operation.Spend number }) result world.old world.new }
+    ensures { Follows
+        (record { node = node; hash = hash.now; operation = operation.Spend number }) result world.old world.new }
 {
     if world.spend(node, hash, number) {
         Ok(())
@@ -67,13 +68,15 @@ fn spend(
 }
 
 fn make_tag(world: &mut StoredWorld, node: u64, hash: &ServiceHash) -> Result<(), FollowError>
-    ensures { Follows (record { node = node; hash = hash.now; operation = operation.MakeTag }) result world.old world.new }
+    ensures { Follows
+        (record { node = node; hash = hash.now; operation = operation.MakeTag }) result world.old world.new }
 {
     judging::made_tag(world.make_tag(&mut Unrecorded, node, hash))
 }
 
 fn remove_tag(world: &mut StoredWorld, node: u64, hash: &ServiceHash) -> Result<(), FollowError>
-    ensures { Follows (record { node = node; hash = hash.now; operation = operation.RemoveTag }) result world.old world.new }
+    ensures { Follows
+        (record { node = node; hash = hash.now; operation = operation.RemoveTag }) result world.old world.new }
 {
     judging::removed(world.remove_tag(&mut Unrecorded, node, hash))
 }
@@ -84,7 +87,8 @@ fn lock(
     hash: &ServiceHash,
     number: u64,
 ) -> Result<(), FollowError>
-    ensures { Follows (record { node = node; hash = hash.now; operation = operation.Lock number }) result world.old world.new }
+    ensures { Follows
+        (record { node = node; hash = hash.now; operation = operation.Lock number }) result world.old world.new }
 {
     judging::locked(world.lock(&mut Unrecorded, node, hash), number)
 }
@@ -103,7 +107,8 @@ fn make_segment(
 }
 
 fn remove_segment(world: &mut StoredWorld, node: u64, hash: &ServiceHash) -> Result<(), FollowError>
-    ensures { Follows (record { node = node; hash = hash.now; operation = operation.RemoveSegment }) result world.old world.new }
+    ensures { Follows
+        (record { node = node; hash = hash.now; operation = operation.RemoveSegment }) result world.old world.new }
 {
     judging::removed(world.remove_segment(&mut Unrecorded, node, hash))
 }

@@ -96,7 +96,8 @@ fn open_with_tag<P: Pattern, S: Storage>(
     storage: &mut S,
 ) -> Option<Result<u64, P::OpenError>>
     ensures { Joins S.step storage.old
-        (λ word. IsTaggedOpening (P.meaning pattern.now) caller.now.node caller.now.hash number result word) storage.new }
+        (λ word. IsTaggedOpening (P.meaning pattern.now) caller.now.node caller.now.hash number result word)
+        storage.new }
 {
     let tag = match storage.make_tag(caller.node, &caller.hash) {
         Ok(tag) => tag,

@@ -179,4 +179,5 @@ CountsSkipped s t word = Run (MayRefuse IsTableAccess) s word t → s.skipped �
 -- A step that needs no room is never skipped: where it is allowed it has its effect, and else nothing changes.
 abbrev pub HasItsEffect : Type 0
 HasItsEffect = (s t : World × ℕ) (x : Step)
-    → NeedsNoRoom (act_of x.act) (phase_of s.0 (Peer x.peer) x.hash) → IsPeerStep s x t → t ≡ (unwrap_or (effect s.0 x) s.0, s.1)
+    → NeedsNoRoom (act_of x.act) (phase_of s.0 (Peer x.peer) x.hash) → IsPeerStep s x t
+    → t ≡ (unwrap_or (effect s.0 x) s.0, s.1)

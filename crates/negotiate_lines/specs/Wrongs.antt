@@ -104,8 +104,8 @@ pub data WrongTerm {S : Type 0} (form : Form) (v : Vocabulary S) (h : How) (old 
       → WrongStep form old instruction w → WrongTerm form v h old term w
 
 -- The terms before it are taken, and it is the first that is wrong.
-pub record WrongArguments {S : Type 0} (form : Form) (v : Vocabulary S) (h : How) (terms : List (List ℕ)) (w : LineError)
-    : Type 0 where
+pub record WrongArguments {S : Type 0} (form : Form) (v : Vocabulary S) (h : How) (terms : List (List ℕ))
+    (w : LineError) : Type 0 where
   pub front : List (List ℕ)
   pub term : List ℕ
   pub behind : List (List ℕ)

@@ -36,7 +36,8 @@ stop_in (Ok x) = Ok x
 stop_in (Err f) = Err (stop.Failed f)
 
 -- A list is printed behind the one before, as far as the output takes it; or there is no memory for that.
-pub data PrintsBehind (gap text : List ℕ) (result : Result (Unit {0}) Stop) (before after : Option (List ℕ)) : Type 0 where
+pub data PrintsBehind (gap text : List ℕ) (result : Result (Unit {0}) Stop) (before after : Option (List ℕ))
+    : Type 0 where
   taken : (written : Result (Unit {0}) ServeError) → Writes (gap ++ text) written before after
       → result ≡ stop_in written → PrintsBehind gap text result before after
   unmade : (why : Stop) → IsUnmade why → result ≡ Err why → after ≡ before → PrintsBehind gap text result before after

@@ -15,7 +15,8 @@ pub fn nodes_text(
     nodes: &[NodeStanding],
     text: &mut String,
 ) -> Result<(), AllocError>
-    ensures { OnOk result (string_bytes text.new ≡ string_bytes text.old ++ flat_map (node_line is_coloured) nodes.now) }
+    ensures { OnOk result
+        (string_bytes text.new ≡ string_bytes text.old ++ flat_map (node_line is_coloured) nodes.now) }
 {
     for node in nodes {
         write_node(is_coloured, *node, text)?;
