@@ -19,7 +19,7 @@ HELD = "event    lamps  1/2    1        0\n1 services\n"
 # The same where the node that holds it is dead.
 LEFT = (
     "event    lamps  1/2    1        0  1 dead\n1 services\n"
-    "1 with dead nodes; `wulameron clean` gives back what they have\n"
+    "1 with dead nodes; run `wulameron clean` to release them\n"
 )
 NO_SERVICES = "PATTERN  NAME  NODES  CREATOR  NUMBER\n0 services\n"
 CLEANED = "node 1: 1 releases, 3 removals\n"

@@ -404,13 +404,13 @@ def alive(runs):
     living.reply(f"event create 0 0 {NAME} max_nodes=2")
     check_alive(runs, path, living, what)
     ran = runs.run(path, None, [f"event open 1 0 {NAME}", "list"])
-    fine = ran.status == 0 and ran.err == f"wulameron: {path}: this is node 1\n"
+    fine = ran.status == 0 and ran.err == f"wulameron: {path}: this process has node 1\n"
     runs.need(fine and ran.out[0] == "ok 0 number=0" and "nodes=2/2" in ran.out[1], f"{what}: beside it {ran}")
     check_nodes(runs, path, {0: "alive", 1: None}, what)
     runs.need(living.reply("close 0") == "closed 0", f"{what}: it doesn't close")
     check_end(runs, path, [living], what)
     ran = runs.run(path, None, ["list"])
-    fine = (ran.status, ran.out, ran.err) == (0, ["0 services"], f"wulameron: {path}: this is node 0\n")
+    fine = (ran.status, ran.out, ran.err) == (0, ["0 services"], f"wulameron: {path}: this process has node 0\n")
     runs.need(fine, f"{what}: after its end {ran}")
     others = [Living(runs, path, None) for _ in range(PROCESSES)]
     replies = [other.reply("list") for other in others]

@@ -24,7 +24,7 @@ NO_LOG = "is no log"
 NO_PERMISSION = "no permission"
 GONE = "was removed or renamed"
 # What it tells where something stays that its node had.
-STAYS = "what was held stays; it is given back by `wulameron clean`"
+STAYS = "the log refused to release what this node holds; run `wulameron clean`"
 # By which a node that has died is left as it is.
 NO_CLEAN = "--no-clean"
 # How many things are tried at once, and how many at least, however long they take.

@@ -11,7 +11,7 @@ from postgres.table import read_rows, replay
 
 LOG = "commands"
 # What a list tells behind its table where one service has dead nodes.
-DEAD_NODES = "1 with dead nodes; `wulameron clean` gives back what they have"
+DEAD_NODES = "1 with dead nodes; run `wulameron clean` to release them"
 # Whether who watches has had the answer to its first reading.
 HAS_READ = """select pid from pg_stat_activity where application_name = 'watch' and state = 'idle'
     and query like '%from wulameron.entries%'"""

@@ -27,7 +27,7 @@ use wulameron_trail::commands::{check, log, watch, watch_list};
 use wulameron_trail::pauses::Sleeper;
 use wulameron_view::viewing::{list, nodes, show};
 
-const NO_LAUNCHER: &str = "is a log in a database; start this by wulameron-postgres";
+const NO_LAUNCHER: &str = "is a log in a database; run wulameron-postgres with the same words";
 
 /// Prints what the words asked for, or what is wrong with them, and gives the status.
 fn print(rt: &HostRuntime, error: &Error) -> u8 {
@@ -181,7 +181,9 @@ fn carry_out(
             }
         }
         Ok(None) => {
-            let _ = eprintln!(rt; "wulameron: no log; name one by --at, or see wulameron --help");
+            let _ = eprintln!(rt;
+                "wulameron: no option and no variable names a log; name one by --at"
+            );
             NOT_A_COMMAND
         }
         Err(error) => print(rt, &error),

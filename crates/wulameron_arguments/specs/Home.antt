@@ -27,5 +27,6 @@ default_path s =
     (option_map (λ user. log_in (shared_memory_folder user)) s.user))
 
 abbrev pub folder_error_text : FolderError → List ℕ
-folder_error_text error.NotOwn = codes "is no folder of this user's alone; name a log with --at"
+folder_error_text error.NotOwn =
+  codes "is a folder that other users can use; make it yours alone (chmod 700), or name a log by --at"
 folder_error_text (error.Refused f) = fault_text f ++ codes "; name a log with --at"

@@ -153,7 +153,7 @@ impl fmt::Display for FolderError {
         match self {
             FolderError::NotOwn => write!(
                 f,
-                "is no folder of this user's alone; name a log with --at"
+                "is a folder that other users can use; make it yours alone (chmod 700), or name a log by --at"
             ),
             FolderError::Refused(fault) => write!(f, "{fault}; name a log with --at"),
         }

@@ -30,8 +30,7 @@ use wulameron_arguments::asked::{Clean, Place};
 pub const NOT_DEAD: u8 = 1;
 
 /// What a world has where a step of a rehearsal is refused.
-pub const STAYS: &str =
-    "has something of a dead node that can't be given back; see `wulameron check`";
+pub const STAYS: &str = "refuses to release what a dead node has; run `wulameron check`";
 
 /// Why there are no nodes to clean up for.
 #[derive(Debug, Drop)]

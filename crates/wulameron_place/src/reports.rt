@@ -21,7 +21,7 @@ use std::io::{ErrorKind, Write};
 const NO_LOG: &str = "there is no log; name another by --at, or make it by `wulameron hold`";
 
 /// What is told where something of a node stays.
-pub const STAYS: &str = "what was held stays; it is given back by `wulameron clean`";
+pub const STAYS: &str = "the log refused to release what this node holds; run `wulameron clean`";
 
 /// A writer of errors for the log of a path.
 #[derive(Drop)]

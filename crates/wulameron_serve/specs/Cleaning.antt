@@ -95,7 +95,8 @@ module _ {S : Type 0} (shows : S → S → Type 0) (world : S → World) where
 -- The log refused for this reason, or else a node's file.
 abbrev pub IsRefusalBy : Option Trouble → (text : List ℕ) → Type 0
 IsRefusalBy (Some t) text = IsRefusal t text
-IsRefusalBy None text = text ≡ refused_line (codes "the file of a dead node refused")
+IsRefusalBy None text =
+    text ≡ refused_line (codes "a dead node's file can't be locked; see the rights of the log's folder")
 
 -- The reply by what became of the nodes, or of the one that was named.
 abbrev pub IsOutcomeReply : Option Trouble → (named : Option ℕ) → Given → (some_alive some_refused : Bool)
@@ -128,12 +129,13 @@ pub record RehearsesSum (nodes : List ℕ) (w : World) (g : Given) (v : World) :
   pub is : g ≡ given_from nothing_given given
 
 abbrev pub stays_why : List ℕ
-stays_why = codes "the log has something of a dead node that can't be given back; see `wulameron check`"
+stays_why = codes "the log refuses to release what a dead node has; run `wulameron check`"
 
 -- It is told what would be given back in a world; or why there are no nodes; or that the world isn't had, or refuses.
 pub data RehearsesAsked (named : Option ℕ) (text : List ℕ) : Type 0 where
   given : (nodes : List ℕ) (w v : World) (g : Given) → AreWanted named nodes → RehearsesSum nodes w g v
       → text ≡ given_line g → RehearsesAsked named text
   not_rehearsed : (why : Unfound) → IsUnfoundReply why text → RehearsesAsked named text
-  not_whole : text ≡ refused_line (codes "the log can't be taken over as a whole") → RehearsesAsked named text
+  not_whole : text ≡ refused_line (codes "the log can't be read to its end; run `wulameron check`")
+      → RehearsesAsked named text
   stays : text ≡ refused_line stays_why → RehearsesAsked named text

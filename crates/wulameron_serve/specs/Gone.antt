@@ -2,7 +2,7 @@
 use Rattle.std.specs.Prelude.{ℕ, List, [], ◌∷◌, ◌++◌, codes, replicate}
 
 abbrev pub gone_line : List ℕ
-gone_line = codes "wulameron: session is gone; write lines to wulameron run --escaped\n"
+gone_line = codes "wulameron: there is no command session; start wulameron run --escaped, and write lines to it\n"
 
 -- A frame of another version than a library of before has: two numbers of four bytes, the lowest byte first, and then
 -- zeros.

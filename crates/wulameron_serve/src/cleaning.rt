@@ -25,10 +25,10 @@ use wulameron_place::texts::gave_nothing;
 use wulameron_place::trouble::{Trouble, Troubled};
 
 /// What is told where a node's file refused, and not the log.
-const FILE_REFUSED: &str = "the file of a dead node refused";
+const FILE_REFUSED: &str = "a dead node's file can't be locked; see the rights of the log's folder";
 
 /// What is told where the world of a rehearsal can't be had.
-const NOT_WHOLE: &str = "the log can't be taken over as a whole";
+const NOT_WHOLE: &str = "the log can't be read to its end; run `wulameron check`";
 
 // ---- what was given back
 

@@ -9,7 +9,8 @@ use negotiate_serve::output::write_out;
 use std::io::Write;
 
 /// What the writer of errors has.
-const GONE: &str = "wulameron: session is gone; write lines to wulameron run --escaped\n";
+const GONE: &str =
+    "wulameron: there is no command session; start wulameron run --escaped, and write lines to it\n";
 
 /// A frame of another version than a library of before has: the number 0, the number 2, and forty zero bytes.
 const OTHER_VERSION: [u8; 48] = [

@@ -72,7 +72,7 @@ pub fn run<
 
 /// Tells which node was claimed.
 fn tell_node<E: Write>(node: u64, reports: &mut Reports<'_, E>) -> Result<(), ServeError> {
-    match format!(in reports.alloc(); "this is node {node}") {
+    match format!(in reports.alloc(); "this process has node {node}") {
         Ok(text) => reports.tell(text.as_str()),
         Err(_) => Err(ServeError::OutOfMemory),
     }

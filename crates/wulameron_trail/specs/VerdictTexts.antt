@@ -13,7 +13,7 @@ use Rattle.wulameron_trail.specs.declared.checker.Verdict.TheVariants as verdict
 abbrev pub ending_text : Ending → List ℕ
 ending_text ending.Whole = codes "\n"
 ending_text (ending.Torn n) =
-    codes "; then " ++ (decimal n ++ codes " bytes that a writer left which died: the next one cuts them off\n")
+    codes "; then " ++ (decimal n ++ codes " bytes of a writer that died; the next writer cuts them off\n")
 ending_text ending.Moved = codes "; the log goes on in another file: check the one that has its path now\n"
 
 -- what is wrong
@@ -22,9 +22,9 @@ wrong_text (wrong.BadHeader header.NotALog) = codes "this is no log"
 wrong_text (wrong.BadHeader (header.AnotherVersion found)) = codes "this is a log of version " ++ decimal found
 wrong_text (wrong.BadHeader header.Damaged) = codes "the header is damaged"
 wrong_text wrong.DamagedEntry = codes "the entry is damaged"
-wrong_text wrong.NotAnswered = codes "the entry is not what the services before it answer"
-wrong_text wrong.ShortSnapshot = codes "the snapshot is shorter than the header has it"
-wrong_text wrong.MarkNotLast = codes "more follows the mark that the log goes on in another file"
+wrong_text wrong.NotAnswered = codes "the entry doesn't follow from the entries before it"
+wrong_text wrong.ShortSnapshot = codes "the snapshot is shorter than its header says"
+wrong_text wrong.MarkNotLast = codes "bytes follow the mark that ends this file"
 
 -- what can be done about it
 abbrev pub remedy : LogFault → List ℕ
@@ -34,7 +34,7 @@ remedy (wrong.BadHeader header.Damaged) = codes "begin another log"
 remedy wrong.DamagedEntry = codes "begin another log"
 remedy wrong.NotAnswered = codes "see which program wrote it, and begin another log"
 remedy wrong.ShortSnapshot = codes "begin another log"
-remedy wrong.MarkNotLast = codes "check the file that has its path now, and begin another log where it is this one"
+remedy wrong.MarkNotLast = codes "check the file that has its path now; if it is this one, begin another log"
 
 -- the line of the first thing that is wrong
 abbrev pub found_line : Found → List ℕ

@@ -309,7 +309,7 @@ impl fmt::Display for NotAnswered {
         let NotAnswered { unit, at } = *self;
         write!(
             f,
-            "the entry at {unit} {at} is not what the services before it answer; check the log"
+            "the entry at {unit} {at} doesn't follow from the entries before it; run `wulameron check`"
         )
     }
 }

@@ -47,7 +47,7 @@ fn write_ending(ending: Ending, text: &mut String) -> Result<(), AllocError>
         Ending::Whole => text.push_str("\n"),
         Ending::Torn(count) => writeln!(
             text,
-            "; then {count} bytes that a writer left which died: the next one cuts them off"
+            "; then {count} bytes of a writer that died; the next writer cuts them off"
         ),
         Ending::Moved => text.push_str(
             "; the log goes on in another file: check the one that has its path now\n",
@@ -70,14 +70,14 @@ fn words_of(alloc: Global, wrong: LogFault) -> Result<String, AllocError>
         ),
         LogFault::DamagedEntry => String::from_str(alloc, "the entry is damaged"),
         LogFault::NotAnswered => {
-            String::from_str(alloc, "the entry is not what the services before it answer")
+            String::from_str(alloc, "the entry doesn't follow from the entries before it")
         }
         LogFault::ShortSnapshot => {
-            String::from_str(alloc, "the snapshot is shorter than the header has it")
+            String::from_str(alloc, "the snapshot is shorter than its header says")
         }
         LogFault::MarkNotLast => String::from_str(
             alloc,
-            "more follows the mark that the log goes on in another file",
+            "bytes follow the mark that ends this file",
         ),
     }
 }
@@ -95,7 +95,7 @@ fn remedy(wrong: LogFault) -> &'static str
         LogFault::NotAnswered => "see which program wrote it, and begin another log",
         LogFault::ShortSnapshot => "begin another log",
         LogFault::MarkNotLast => {
-            "check the file that has its path now, and begin another log where it is this one"
+            "check the file that has its path now; if it is this one, begin another log"
         }
     }
 }

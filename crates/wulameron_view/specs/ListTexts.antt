@@ -145,7 +145,7 @@ with_dead states all = dead_published states all.published.items + dead_creation
 
 abbrev pub dead_line : ℕ → List ℕ
 dead_line n =
-    if n == 0 then [] else decimal n ++ codes " with dead nodes; `wulameron clean` gives back what they have\n"
+    if n == 0 then [] else decimal n ++ codes " with dead nodes; run `wulameron clean` to release them\n"
 
 abbrev pub count_lines : List NodeStatus → Services → List ℕ
 count_lines states all =

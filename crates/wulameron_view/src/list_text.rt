@@ -216,7 +216,7 @@ fn write_dead(count: usize, text: &mut String) -> Result<(), AllocError>
     }
     writeln!(
         text,
-        "{count} with dead nodes; `wulameron clean` gives back what they have"
+        "{count} with dead nodes; run `wulameron clean` to release them"
     )
 }
 
