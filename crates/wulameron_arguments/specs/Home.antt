@@ -28,5 +28,5 @@ default_path s =
 
 abbrev pub folder_error_text : FolderError → List ℕ
 folder_error_text error.NotOwn =
-  codes "is a folder that other users can use; make it yours alone (chmod 700), or name a log by --at"
+    codes "is a folder that other users can use; make it yours alone (chmod 700), or name a log by --at"
 folder_error_text (error.Refused f) = fault_text f ++ codes "; name a log with --at"
