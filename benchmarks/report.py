@@ -21,7 +21,7 @@ PAGE = [
     for pattern in ("event", "pubsub", "rr")
     for what in ("create", "open", "close", "last close", "create with 4 attributes", "open with 4 attributes")
 ] + ["line", "line event", "line pubsub", "line rr", "mixed line", "mix with peers"]
-# The rows of docs/PERFORMANCE.md, beside forms and standing services.
+# The rows of which docs/PERFORMANCE.md has most, beside forms and standing services.
 SHORT = PAGE[:6] + [f"{pattern} {what}" for pattern in ("pubsub", "rr") for what in ("create", "open", "last close")]
 SHORT += PAGE[18:]
 FORMS = [f"{what} {pattern}{more}" for pattern in ("event", "pubsub", "rr") for what in ("encode", "decode")
@@ -471,14 +471,14 @@ def print_page_growth(numbers, what, digits):
 
 
 def report_page(folder, stored):
-    """The page's tables, of the stored instructions and of the last run that timed."""
+    """The tables of which docs/PERFORMANCE.md has a part, of the stored instructions and of the last run that timed."""
     counted = read_counted(stored)
     times, units = read_times(folder)
     # Of a byte nanoseconds, of all else microseconds: the least of the starts, which other tasks disturb least.
     least = {part: (units[part], {program: min(values) / (1 if units[part] == "byte" else 1000)
                                   for program, values in programs.items()})
              for part, programs in times.items()}
-    print("The page's tables:\n")
+    print("The tables of which docs/PERFORMANCE.md has a part:\n")
     print_page_parts(counted, least)
     print_page_growth(counted, "instructions for one", 0)
     if least:
