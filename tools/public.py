@@ -186,7 +186,7 @@ class Api:
         """What a type has inside, where users may see it, and what it implements of std."""
         body, seen = text.partition("{")[2], ""
         if kind == "enum" and item[0] == ERRORS and item[-1].endswith(("OpenError", "CreateError")):
-            seen = f" Its values: docs/REFUSALS.md#{item[-1].lower()}."
+            seen = " Its values: docs/REFUSALS.md."
         elif kind == "enum":
             seen = " Values: " + ", ".join(re.findall(r"^    (\w+)", re.sub(r"//.*", "", body), re.M)) + "."
         elif kind == "struct":

@@ -18,7 +18,7 @@ SUM_LENGTH = 8
 HASH_LENGTH = 20
 SHORTEST_BODY = 29
 LONGEST_BODY = 1048576
-DEEDS = {
+OPERATIONS = {
     1: ("make_tag", ()),
     2: ("remove_tag", ()),
     3: ("lock", ("number",)),
@@ -256,9 +256,9 @@ def read_body(body, at):
     """The entry of a body whose sum is right."""
     parts = Parts(body)
     kind = parts.number(1)
-    if kind not in DEEDS:
+    if kind not in OPERATIONS:
         raise Malformed(f"kind {kind}")
-    operation, details = DEEDS[kind]
+    operation, details = OPERATIONS[kind]
     node, service_hash = parts.number(), parts.take(HASH_LENGTH)
     found = {name: parts.rest() if name == "form" else parts.number() for name in details}
     parts.end()

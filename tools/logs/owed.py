@@ -12,7 +12,7 @@ from logs.runs import FAULT, STAYS, Living, at_once
 NODE, OTHER = 61, 62
 # What stays open meanwhile, and what is made and closed beside it.
 KEPT, OWED = f"event create {NODE} 0 kept", [f"pubsub create {NODE} 1 owed", "close 1"]
-DEEDS = [*CREATED, *CREATED, *CLOSED_LAST, *CLOSED_LAST]
+OPERATIONS = [*CREATED, *CREATED, *CLOSED_LAST, *CLOSED_LAST]
 # The place of the first entry of what is made beside it, that of its close, and the one after.
 MADE, CLOSED, DONE = 4, 8, 12
 # For how many bytes of the refused entry there is room.
@@ -40,7 +40,7 @@ def whole(runs):
     runs.need((ran.status, ran.out, ran.err) == (0, wanted, ""), f"what is owed: nothing was refused, and {ran}")
     entries = read_log(path.read_bytes()).entries
     operations = [entry.operation for entry in entries]
-    return entries if runs.need(operations == DEEDS, f"what is owed: in the log is {operations}") else None
+    return entries if runs.need(operations == OPERATIONS, f"what is owed: in the log is {operations}") else None
 
 
 def has(runs, path, wanted, what):

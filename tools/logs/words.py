@@ -3,7 +3,7 @@ import re
 
 from logs.writing import MARK, SETTINGS, ZEROS, entry_bytes, form_bytes, message_bytes, settings_bytes
 
-DEEDS = {
+OPERATIONS = {
     "makes tag": ("make_tag", ()),
     "removes tag": ("remove_tag", ()),
     "locks": ("lock", ("number",)),
@@ -79,7 +79,7 @@ def publishing(node, what, found, number, words):
 
 def operation(node, verb, found, words):
     """The entry of another operation."""
-    kind, details = DEEDS[verb]
+    kind, details = OPERATIONS[verb]
     terms = {name: int(value) for name, value in (word.split("=") for word in words)}
     if terms.keys() != set(details):
         raise ValueError(f"it takes {' and '.join(details) or 'no number'}")
@@ -94,6 +94,6 @@ def entry(line):
         return entry_bytes("spend", int(spent[1]), int(spent[2]), found=ZEROS)
     if made := re.fullmatch(r"node (\d+) publishes (\S+ \S+) (\S+) number=(\d+)((?: \S+)*)", line):
         return publishing(int(made[1]), made[2], digits(made[3], 20), int(made[4]), made[5].split())
-    if made := re.fullmatch(rf"node (\d+) ({'|'.join(DEEDS)}) (\S+)((?: \w+=\d+)*)", line):
+    if made := re.fullmatch(rf"node (\d+) ({'|'.join(OPERATIONS)}) (\S+)((?: \w+=\d+)*)", line):
         return operation(int(made[1]), made[2], digits(made[3], 20), made[4].split())
     raise ValueError("it is no entry, and damages nothing")

@@ -279,7 +279,7 @@ impl Given {
         }
     }
 
-    /// Adds the entries of a node, `NODE before N: DEED, ..`, to those that come before this access.
+    /// Adds the entries of a node, `NODE before N: OPERATION, ..`, to those that come before this access.
     fn add_entries(&mut self, alloc: Global, text: &str) -> Result<(), CaseError> {
         let (front, operations) = around(text, ":");
         let (node, access) = around(front, " before ");
