@@ -1,4 +1,4 @@
-//! What a handle does to the bytes of its file, over any medium.
+//! The work of a handle on the bytes of its file, over any medium.
 
 ghost use Rattle.std.specs.Prelude.{◌≡◌, ◌+◌, ◌≤◌, ◌⊎◌, length, IfOk, IfErr, OnOk, OnErr, IfSome, IsTrue};
 ghost use Rattle.iceoryx2_file_log.specs.declared.error.FileFault.TheVariants as fault;
@@ -17,10 +17,11 @@ use std::io::ErrorKind;
 use std::thread;
 use std::time::{Clock, Duration, Instant};
 
-/// How many bytes are read at once.
+/// The number of bytes that are read at once.
 const PIECE_LENGTH: usize = 8192;
 
-/// By how much each pause is longer than the one before, between two tries to hold the log and in a wait.
+/// The time by which each pause is longer than the one before, between two tries to hold the log and in a
+/// wait.
 const PAUSE_GROWTH_MICROS: u64 = 20;
 
 /// The longest of these pauses.
@@ -28,7 +29,7 @@ const LONGEST_PAUSE_MICROS: u64 = 2000;
 
 // ---- the lock
 
-/// How long the pause of this number takes, from 0 on.
+/// Returns the length of the pause of this number, from 0 on.
 pub(crate) fn pause_after(round: u64) -> Duration {
     let micros = round
         .saturating_mul(PAUSE_GROWTH_MICROS)
@@ -36,8 +37,8 @@ pub(crate) fn pause_after(round: u64) -> Duration {
     Duration::from_micros(micros)
 }
 
-/// Tries to lock the file until it is locked or the patience is over, with pauses that grow: `Busy` then. Gives how
-/// long the file is.
+/// Tries to lock the file until it is locked or the patience is over, with pauses that grow. Returns the
+/// length of the file. `Busy` if the patience is over.
 pub fn lock<C: Clock, M: Medium>(
     clock: &C,
     medium: &mut M,
@@ -71,8 +72,8 @@ pub fn lock<C: Clock, M: Medium>(
     Err(FileFault::Busy)
 }
 
-/// Lets go of the lock of a file that was measured under it, so that it is read while others may have the lock.
-/// `Damaged` where it is shorter than so many bytes.
+/// Lets go of the lock of a file that was measured under it, so that the file is read while other handles
+/// may have the lock. `Damaged` if the file is shorter than so many bytes.
 pub fn end_measuring<M: Medium>(
     medium: &mut M,
     file_length: u64,
@@ -90,7 +91,7 @@ pub fn end_measuring<M: Medium>(
 
 // ---- reading
 
-/// Reads on, from where the file was read to, by at most so many bytes.
+/// Reads on from where reading stopped, by at most so many bytes.
 pub fn read_into<M: Medium>(
     medium: &mut M,
     cursor: &mut Cursor,
@@ -114,7 +115,7 @@ pub fn read_into<M: Medium>(
     }
 }
 
-/// Reads on, from where the file was read to.
+/// Reads on from where reading stopped.
 fn read_on<M: Medium>(medium: &mut M, cursor: &mut Cursor) -> Result<(), FileFault>
     requires { IfSome (M.known medium.old) (Reading cursor.old) }
     ensures reading { IfSome (M.known medium.new) (Reading cursor.new) }
@@ -126,7 +127,7 @@ fn read_on<M: Medium>(medium: &mut M, cursor: &mut Cursor) -> Result<(), FileFau
     read_into(medium, cursor, &mut piece[..wanted])
 }
 
-/// What stands at the position, after as much was read as has to be. It is never unfinished.
+/// Returns what begins at the position, after as much was read as has to be. It is never unfinished.
 pub fn front_at<M: Medium>(
     medium: &mut M,
     cursor: &mut Cursor,
@@ -152,8 +153,8 @@ pub fn front_at<M: Medium>(
     })
 }
 
-/// How many bytes the file has from there on that are the same as these there, as far as the piece takes them. 0 where
-/// others come.
+/// Returns the number of bytes that the file has from this place on that are the same as these bytes
+/// there, as far as the piece takes them. 0 if other bytes come.
 fn same_at<M: Medium>(
     medium: &mut M,
     bytes: &[u8],
@@ -174,8 +175,8 @@ fn same_at<M: Medium>(
     Ok(count)
 }
 
-/// Reads back what the file holds, which is so long, and compares it with these bytes. `Failed` by `InvalidData` where
-/// it holds others.
+/// Reads back the content of the file, which is so long, and compares it with these bytes. `Failed` by
+/// `InvalidData` if the file holds other bytes.
 pub fn read_back<M: Medium>(medium: &mut M, bytes: &[u8], file_length: u64) -> Result<(), FileFault>
     requires { IfSome (M.known medium.old) (IsSoLong file_length) }
     ensures ok { OnOk result (IfSome (M.known medium.old) (Holds bytes.now)) }
@@ -202,7 +203,7 @@ pub fn read_back<M: Medium>(medium: &mut M, bytes: &[u8], file_length: u64) -> R
 
 // ---- writing and cutting off
 
-/// Writes the bytes at this place, and synchronizes them where that is wanted.
+/// Writes the bytes at this place, and synchronizes them if that is wanted.
 pub fn write<M: Medium>(
     medium: &mut M,
     form: &[u8],
@@ -220,7 +221,7 @@ pub fn write<M: Medium>(
     Ok(())
 }
 
-/// Makes the file end at this place, and synchronizes that where it is wanted.
+/// Makes the file end at this place, and synchronizes that if it is wanted.
 pub(crate) fn shorten<M: Medium>(
     medium: &mut M,
     at: u64,
@@ -237,8 +238,9 @@ pub(crate) fn shorten<M: Medium>(
     Ok(())
 }
 
-/// Takes back what a write at the end has left that failed by this error, and gives why it is refused. `Unsure` where
-/// it can't be taken back, or that can't be synchronized where it is wanted.
+/// Takes back the bytes that a write at the end has left, which failed by this error. Returns the reason
+/// why the write is refused. `Unsure` if the bytes can't be taken back, or if that can't be synchronized
+/// although it is wanted.
 pub fn take_back<M: Medium>(
     medium: &mut M,
     at: u64,
@@ -254,7 +256,8 @@ pub fn take_back<M: Medium>(
     }
 }
 
-/// Why a cut is refused that is made and could not be synchronized. `Unsure` where that is wanted.
+/// Returns the reason why a cut is refused that was made and could not be synchronized. `Unsure` if
+/// synchronizing is wanted.
 pub(crate) fn cut_fault(error: FileFault, synchronizes: bool) -> FileFault
     ensures doubt { IsTrue synchronizes → result ≡ fault.Unsure }
     ensures other { (IsTrue synchronizes → ⊥) → result ≡ error }

@@ -1,4 +1,5 @@
-//! What of a compaction needs no file: the mark, the bytes of a snapshot, and when one is tried.
+//! The parts of a compaction that need no file: the mark, the bytes of a snapshot, and when a compaction
+//! is tried.
 
 ghost use Rattle.std.specs.Prelude.{◌≡◌, ◌≢◌, ◌<◌, ◌↔◌, IsTrue, IfOk, IfErr, All};
 ghost use Rattle.iceoryx2_log.specs.declared.entry.Operation.TheVariants as operation;
@@ -13,13 +14,13 @@ use iceoryx2_log::entry::{Entry, Operation};
 use iceoryx2_log::form::{EncodeError, encode};
 use std::alloc::{AllocError, Global};
 
-/// How many bytes a log has at most that is not compacted.
+/// The highest number of bytes of a log that is not compacted.
 const SHORT_LENGTH: u64 = 65_536;
 
-/// How many times as long a file has to be as the one that a compaction would make.
+/// A file has to be so many times as long as the file that a compaction would make.
 const SAVING: u64 = 8;
 
-/// How many bytes more a file has to have where a compaction was refused.
+/// The number of bytes by which a file has to grow after a compaction was refused.
 const LATER: u64 = 65_536;
 
 /// The bits of a file's mode by which its group may read and write it.
@@ -27,7 +28,7 @@ const GROUP_BITS: u32 = 0o060;
 
 // ---- the mark
 
-/// Whether the entry marks that the log goes on in another place.
+/// Returns true if the entry marks that the log goes on in another place.
 pub fn is_mark(entry: &Entry) -> bool
     ensures { IsTrue result ↔ (entry.now.operation ≡ operation.Moved) }
 {
@@ -37,7 +38,7 @@ pub fn is_mark(entry: &Entry) -> bool
     }
 }
 
-/// The mark, of nobody and of no service.
+/// Returns the mark, which is of no node and of no service.
 fn mark() -> Entry
     ensures node { result.node ≡ 0 }
     ensures hash { All (λ b. b ≡ 0) result.hash.0 }
@@ -50,7 +51,7 @@ fn mark() -> Entry
     }
 }
 
-/// Why an entry has no form.
+/// Returns the fault of an entry that has no form.
 fn encode_fault(error: EncodeError) -> FileFault
     ensures { result ≢ fault.NothingSaved }
 {
@@ -60,7 +61,7 @@ fn encode_fault(error: EncodeError) -> FileFault
     }
 }
 
-/// The byte form of the mark.
+/// Returns the byte form of the mark.
 pub fn mark_form(alloc: Global) -> Result<Vec<u8>, FileFault>
     ensures { IfOk result (λ bytes. IsMark bytes.items) }
 {
@@ -89,7 +90,7 @@ impl Drop for Snapshot {
     }
 }
 
-/// The byte forms of the entries, one after the other.
+/// Returns the byte forms of the entries, one after the other.
 fn forms_of(alloc: Global, entries: &[Entry]) -> Result<Vec<u8>, EncodeError>
     ensures { IfOk result (λ bytes. AreForms entries.now bytes.items) }
 {
@@ -101,7 +102,7 @@ fn forms_of(alloc: Global, entries: &[Entry]) -> Result<Vec<u8>, EncodeError>
     Ok(bytes)
 }
 
-/// The file of the log of this name with these bytes as its snapshot.
+/// Returns the file of the log of this name with these bytes as its snapshot.
 fn file_of(alloc: Global, name: LogName, snapshot: &[u8]) -> Result<Snapshot, AllocError>
     ensures { IfOk result (λ file. HasSnapshot name snapshot.now file.header file.bytes.items) }
 {
@@ -115,8 +116,8 @@ fn file_of(alloc: Global, name: LogName, snapshot: &[u8]) -> Result<Snapshot, Al
     Ok(Snapshot { header, bytes })
 }
 
-/// The file of the log of this name with these entries as its snapshot. `TooLong` where one of them has too long a
-/// body, and `OutOfMemory` where the bytes found no memory.
+/// Returns the file of the log of this name with these entries as its snapshot. `TooLong` if the body of
+/// an entry is too long, and `OutOfMemory` if there was no memory for the bytes.
 pub fn snapshot_of(alloc: Global, name: LogName, entries: &[Entry]) -> Result<Snapshot, FileFault>
     ensures ok { IfOk result (λ file. IsSnapshot name entries.now file.header file.bytes.items) }
     ensures err { IfErr result (λ why. why ≢ fault.NothingSaved) }
@@ -130,7 +131,7 @@ pub fn snapshot_of(alloc: Global, name: LogName, entries: &[Entry]) -> Result<Sn
     }
 }
 
-/// Whether this place is before the end of the snapshot with which a log of this header begins.
+/// Returns true if this place is before the end of the snapshot with which a log of this header begins.
 pub fn is_before_end(position: u64, header: &Header) -> bool
     ensures { IsTrue result ↔ (position < snapshot_end header.now) }
 {
@@ -140,7 +141,8 @@ pub fn is_before_end(position: u64, header: &Header) -> bool
     }
 }
 
-/// Whether the snapshot with which a log of this header begins ends between these places, at neither of them.
+/// Returns true if the snapshot with which a log of this header begins ends between these places, at
+/// neither of them.
 pub fn is_across_end(from: u64, to: u64, header: &Header) -> bool
     ensures { IsTrue result ↔ ((from < snapshot_end header.now) × (snapshot_end header.now < to)) }
 {
@@ -152,36 +154,37 @@ pub fn is_across_end(from: u64, to: u64, header: &Header) -> bool
 
 // ---- when a compaction is tried
 
-/// Whether a file of so many bytes is so long that a compaction may be worth it, where one is tried from a length on.
+/// Returns true if a file of so many bytes is so long that a compaction may be worth it. One is tried
+/// from the second length on.
 pub fn is_long(file_length: u64, tries_from: u64) -> bool
     ensures { IsTrue result ↔ IsLong file_length tries_from }
 {
     SHORT_LENGTH < file_length && tries_from <= file_length
 }
 
-/// Whether a file of so many bytes is worth a compaction to the wanted ones.
+/// Returns true if a file of so many bytes is worth a compaction to the wanted ones.
 pub fn is_worth(file_length: u64, wanted: u64) -> bool
     ensures { IsTrue result ↔ IsWorth file_length wanted }
 {
     wanted <= file_length / SAVING
 }
 
-/// The length from which it is.
+/// Returns the length from which a file is worth a compaction to so many bytes.
 pub fn length_worth(wanted: u64) -> u64
     ensures { result ≡ worth_from wanted }
 {
     wanted.saturating_mul(SAVING)
 }
 
-/// The length from which a log with this header is first compacted. With a shorter one too little would be saved as
-/// long as what its snapshot has still stands.
+/// Returns the length from which a log with this header is first compacted. A compaction of a shorter log
+/// would save too little as long as the entries of its snapshot still stand.
 pub fn first_tried(header: &Header) -> u64
     ensures { result ≡ first_tried header.now }
 {
     length_worth(header.snapshot_length.saturating_add(HEADER_LENGTH as u64))
 }
 
-/// The length from which a compaction is tried again that was refused at this one.
+/// Returns the length from which a compaction is tried again that was refused at this length.
 pub fn length_later(file_length: u64) -> u64
     ensures { result ≡ later file_length }
 {
@@ -190,7 +193,7 @@ pub fn length_later(file_length: u64) -> u64
 
 // ---- who may use the file
 
-/// Whose a file is, its group, and the bits of its mode.
+/// The user and the group of a file, and the bits of its mode.
 #[derive(Clone, Copy, Debug, PartialEq, Eq)]
 pub struct Access {
     pub user: u32,
@@ -198,7 +201,8 @@ pub struct Access {
     pub mode: u32,
 }
 
-/// Whether whoever may use a file with the old access may use it with the new one, of the same mode.
+/// Returns true if anyone who may use a file with the old access may use it with the new one, of the same
+/// mode.
 pub fn keeps_access(old: Access, new: Access) -> bool
     ensures { IsTrue result ↔ KeepsAccess old new }
 {

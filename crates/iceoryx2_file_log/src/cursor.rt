@@ -1,4 +1,4 @@
-//! Where a handle stands in the file of its log.
+//! The place of a handle in the file of its log.
 
 ghost use Rattle.std.specs.Prelude.{◌≡◌, ◌++◌, ◌+◌, ◌<◌, ◌≤◌, ◌^◌, ◌↔◌, length, IsTrue, OnOk, OnErr};
 ghost use Rattle.std.specs.Prelude.{◌≢◌, None, IfSome};
@@ -12,20 +12,23 @@ use crate::error::FileFault;
 use std::alloc::{AllocError, Global};
 use std::marker::Model;
 
-/// How a handle stands to its log.
+/// The state of a handle towards its log.
 #[derive(Clone, Copy, Debug, PartialEq, Eq)]
 pub enum State {
     Free,
     Held,
-    /// An append failed, and what it left could not be taken back, so nobody knows whether its entry stands; or what
-    /// was taken back or cut off may come back with the power, though the options synchronize. This handle would take
-    /// its own entry for another's, so it is used no more; a new one reads what stands.
+    /// An append failed, and its bytes could not be taken back, so nobody knows whether its entry stands.
+    /// Or bytes that were taken back or cut off may come back after a power loss, though the options
+    /// synchronize. This handle would take its own entry for another's, so it is used no more. A new
+    /// handle reads the entries that stand.
     Unsure,
-    /// What begins at this byte is no entry, nor what a writer leaves that died. The handle is used no more.
+    /// The bytes that begin at this byte are no entry, nor the remainder that a writer leaves when it
+    /// dies. The handle is used no more.
     Damaged { at: u64 },
 }
 
-/// Where a handle stands in the file of its log, how long the file is, and what was read of it.
+/// The place of a handle in the file of its log, the length of the file, and the bytes that were read of
+/// it.
 #[derive(Debug)]
 pub struct Cursor {
     state: State,
@@ -69,7 +72,7 @@ impl Cursor {
     ghost use Rattle.iceoryx2_file_log.specs.Place.{start, left, held, accepted, cut, appended, let_go_of, state_after};
     ghost use Rattle.iceoryx2_file_log.specs.Place.{why_not_free, why_not_held, looked_to};
 
-    /// Of a handle that is free, at the end of what stands before the entries.
+    /// Returns the cursor of a handle that is free, and stands before the first entry, at this position.
     pub fn new(alloc: Global, position: u64) -> Cursor
         ensures { result ≡ start position }
     {
@@ -94,42 +97,42 @@ impl Cursor {
         self.position
     }
 
-    /// How long the file is.
+    /// Returns the length of the file.
     pub fn file_length(&self) -> u64
         ensures { result ≡ self.now.file_length }
     {
         self.file_length
     }
 
-    /// What was read of the file from the position on.
+    /// Returns the bytes that were read of the file, from the position on.
     pub fn ahead(&self) -> &[u8]
         ensures { result.now ≡ self.now.ahead }
     {
         self.ahead.as_slice()
     }
 
-    /// How many bytes of the file stand from the position on.
+    /// Returns the number of the file's bytes from the position on.
     pub fn left(&self) -> u64
         ensures { result ≡ left self.now }
     {
         self.file_length - self.position
     }
 
-    /// Whether none do.
+    /// Returns true if no bytes follow the position.
     pub fn is_read(&self) -> bool
         ensures { IsTrue result ↔ (self.now.file_length ≡ self.now.position) }
     {
         self.file_length == self.position
     }
 
-    /// How many bytes of the file were not read yet.
+    /// Returns the number of the file's bytes that were not read yet.
     pub fn missing(&self) -> u64
         ensures { self.now.position + length self.now.ahead + result ≡ self.now.file_length }
     {
         self.left() - self.ahead.as_slice().len() as u64
     }
 
-    /// Where so many of the bytes end that were read.
+    /// Returns the place at which so many of the read bytes end.
     pub fn end_of(&self, count: usize) -> u64
         requires { count ≤ length self.now.ahead }
         ensures { result ≡ self.now.position + count }
@@ -138,21 +141,21 @@ impl Cursor {
         self.read_to() - rest as u64
     }
 
-    /// Up to where the file was read.
+    /// Returns the place up to which the file was read.
     pub fn read_to(&self) -> u64
         ensures { result ≡ self.now.position + length self.now.ahead }
     {
         self.file_length - self.missing()
     }
 
-    /// Whether just so many bytes were read, and they are all that stands from the position on.
+    /// Returns true if exactly so many bytes were read, and they are all that follows the position.
     pub fn ends_after(&self, count: usize) -> bool
         ensures { IsTrue result ↔ ((length self.now.ahead ≡ count) × (left self.now ≤ length self.now.ahead)) }
     {
         self.ahead.as_slice().len() == count && self.missing() == 0
     }
 
-    /// Why the handle can't hold the log.
+    /// Returns the reason why the handle can't hold the log, if there is one.
     pub fn why_not_free(&self) -> Option<FileFault>
         ensures { result ≡ why_not_free self.now.state }
     {
@@ -164,7 +167,7 @@ impl Cursor {
         }
     }
 
-    /// Why the handle can't read or append.
+    /// Returns the reason why the handle can't read or append, if there is one.
     pub fn why_not_held(&self) -> Option<FileFault>
         ensures why { result ≡ why_not_held self.now.state }
         ensures held { result ≡ None → self.now.state ≡ state.Held }
@@ -178,7 +181,7 @@ impl Cursor {
         }
     }
 
-    /// The log is held, and its file is so long.
+    /// Notes that the log is held, and that its file is so long.
     pub fn hold(&mut self, file_length: u64)
         requires { self.old.position ≤ file_length }
         ensures { self.new ≡ held file_length self.old }
@@ -189,7 +192,7 @@ impl Cursor {
         self.state = State::Held;
     }
 
-    /// The file was measured, and is so long. Nothing else is known of it.
+    /// Notes that the file was measured, and is so long. Nothing else is known of it.
     pub fn look(&mut self, file_length: u64)
         requires { self.old.position ≤ file_length }
         ensures { self.new ≡ looked_to file_length self.old }
@@ -199,7 +202,7 @@ impl Cursor {
         self.file_length = file_length;
     }
 
-    /// These bytes were read next. An `Err` changes nothing.
+    /// Adds the bytes that were read next. An `Err` changes nothing.
     pub fn read(&mut self, bytes: &[u8]) -> Result<(), AllocError>
         requires { length self.old.ahead + length bytes.now ≤ left self.old }
         ensures ok { OnOk result (self.new ≡ record self.old { ahead = self.old.ahead ++ bytes.now }) }
@@ -208,7 +211,7 @@ impl Cursor {
         self.ahead.add(bytes)
     }
 
-    /// An entry of so many bytes was found, or none.
+    /// Notes that an entry of so many bytes was found, or none.
     pub fn find(&mut self, count: usize)
         requires { count ≤ length self.old.ahead }
         ensures { self.new ≡ record self.old { found = count } }
@@ -216,7 +219,7 @@ impl Cursor {
         self.found = count;
     }
 
-    /// The entry that was found is taken over.
+    /// Takes over the entry that was found.
     pub fn accept(&mut self)
         ensures { self.new ≡ accepted self.old }
     {
@@ -225,7 +228,7 @@ impl Cursor {
         self.found = 0;
     }
 
-    /// What is left of the file was cut off, as all of it is torn, or a mark.
+    /// Notes that the rest of the file was cut off, as all of it is torn, or a mark.
     pub fn cut(&mut self)
         requires torn { MayBeCut self.old.ahead }
         requires all { left self.old ≤ length self.old.ahead }
@@ -236,7 +239,7 @@ impl Cursor {
         self.file_length = self.position;
     }
 
-    /// An entry of so many bytes was appended, with no unread one before it.
+    /// Notes that an entry of so many bytes was appended, with no unread one before it.
     pub fn append(&mut self, count: u64)
         requires all_read { self.old.file_length ≡ self.old.position }
         requires room { self.old.position + count < 2 ^ 64 }
@@ -246,7 +249,7 @@ impl Cursor {
         self.file_length = self.position;
     }
 
-    /// The log refused a call for this reason.
+    /// Notes that the log refused a call for this reason.
     pub fn refuse(&mut self, why: FileFault)
         ensures { self.new ≡ record self.old { state = state_after why self.old.state } }
     {
@@ -257,7 +260,7 @@ impl Cursor {
         }
     }
 
-    /// The log is held no more.
+    /// Notes that the log is held no more.
     pub fn let_go(&mut self)
         ensures { self.new ≡ let_go_of self.old }
     {

@@ -9,7 +9,7 @@ use std::error::Error;
 use std::fmt;
 use std::io::{self, ErrorKind};
 
-/// Why a log in a file refused. The first ones come only where a file is opened.
+/// The reason why a log in a file refused. The first ones come only when a file is opened.
 #[derive(Clone, Copy, Debug, PartialEq, Eq)]
 pub enum FileFault {
     /// The path is that of a symbolic link, which is not followed.
@@ -18,22 +18,22 @@ pub enum FileFault {
     IsAFolder,
     /// The path is that of something else that is no file, such as a pipe.
     NotAFile,
-    /// The file doesn't begin as that of a log does; an empty one neither.
+    /// The file doesn't begin as the file of a log does. An empty file isn't a log either.
     NotALog,
     /// The log is of another version.
     AnotherVersion { found: u8 },
-    /// What begins at this byte is neither whole nor what a writer leaves that died: at byte 0 the header, else an
-    /// entry.
+    /// The bytes that begin at this byte are neither whole nor the remainder that a writer leaves when it
+    /// dies. At byte 0 they are the header, else an entry.
     Damaged { at: u64 },
     /// The system doesn't permit it.
     NoPermission,
-    /// Others held the log as long as the options allow.
+    /// Other handles held the log for as long as the options allow.
     Busy,
     /// There is no room on the disk.
     DiskFull,
     /// There was no memory.
     OutOfMemory,
-    /// The body of an entry is longer than any that is read.
+    /// The body of an entry is longer than any body that is read.
     TooLong,
     /// The handle was opened to read only, so it never holds the log.
     ReadOnly,
@@ -41,26 +41,28 @@ pub enum FileFault {
     HeldAlready,
     /// The handle doesn't hold the log.
     NotHeld,
-    /// Entries of others are unread, so nothing is appended yet.
+    /// Entries of other handles are unread, so nothing is appended yet.
     Unread,
-    /// An append failed, and what it left could not be taken back, so nobody knows whether its entry stands. Or what
-    /// was taken back or cut off may come back with the power, though the options synchronize.
+    /// An append failed, and its bytes could not be taken back, so nobody knows whether its entry stands.
+    /// Or bytes that were taken back or cut off may come back after a power loss, though the options
+    /// synchronize.
     Unsure,
     /// The log goes on in another file, which has the path now.
     Moved,
-    /// The file has the log's path no more: it was removed or renamed, or another file was renamed over it. Comes where
-    /// nothing of the file is unread, and of an append. And where a log is to go on in another file, and none has the
-    /// path.
+    /// The file no longer has the log's path: it was removed or renamed, or another file was renamed over
+    /// it. Comes when nothing of the file is unread, and from an append. It also comes if a log is to go
+    /// on in another file, and no file has the path.
     Removed,
     /// The file that has the path now is that of another log.
     AnotherLog,
     /// The file has fewer than eight times the bytes that it would have after a compaction.
     NothingSaved,
-    /// The system refused for another reason. With `InvalidData` a new file holds other bytes than were written to it.
+    /// The system refused for another reason. If the kind is `InvalidData`, a new file holds other bytes
+    /// than were written to it.
     Failed { kind: ErrorKind },
 }
 
-/// What the system refused by, where no other fault says so.
+/// Returns the system's reason in words, if no other fault names it.
 fn refusal_text(kind: ErrorKind) -> &'static str
     ensures { result.now ≡ kind_text kind }
 {
@@ -107,7 +109,7 @@ impl fmt::Display for FileFault {
     }
 }
 
-/// Why the log in the file of this path refused.
+/// The reason why the log in a file refused, with the path of that file.
 #[derive(Debug, PartialEq, Eq)]
 pub struct FileLogError {
     path: String,
@@ -155,7 +157,7 @@ impl fmt::Display for FileLogError {
 
 impl Error for FileLogError {}
 
-/// What an error of the system means for a log in a file.
+/// Returns the fault that an error of the system means for a log in a file.
 pub fn system_fault(error: &io::Error) -> FileFault
     ensures kind { result ≡ kind_fault (error_kind error.now) }
     ensures file { IsOfFile result }
@@ -170,7 +172,7 @@ pub fn system_fault(error: &io::Error) -> FileFault
     }
 }
 
-/// What a log answers where its file refused.
+/// Returns the error that a log answers if its file refused for this fault.
 pub fn log_error(fault: FileFault) -> LogError
     ensures { result ≡ log_error_of fault }
 {

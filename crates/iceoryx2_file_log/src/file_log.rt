@@ -1,20 +1,22 @@
 //! A log in a file, under the file's advisory lock.
 //!
-//! What a file holds is known to no contract, so `contents` claims nothing here. What is proved is what each call
-//! makes of where the handle stands: what was read of the file, what is taken over, that only torn bytes and marks are
-//! cut off, and whether the handle has the lock (`HasLock`). What it does to the bytes is in `bytes`, over any medium.
+//! No contract knows what a file holds, so `contents` claims nothing here. The contracts state what each
+//! call makes of the handle's position: what was read of the file, what is taken over, that only torn
+//! bytes and marks are cut off, and whether the handle has the lock (`HasLock`). The module `bytes`
+//! states what a handle does to the bytes, over any medium.
 //!
-//! Whoever holds a long log compacts it by one call. The call makes a file beside the log's own, with a snapshot, reads
-//! the bytes back and compares them. Then the old file gets a mark as its last entry, and the new one gets the path.
-//! Whoever still has the old file reads the mark, and goes to the file that has the path. A process that is killed
-//! meanwhile leaves one of both files as the log: the old one, where a mark that is its last entry is cut off as long
-//! as it has the path itself, or the new one.
+//! A process that holds a long log compacts it by one call. The call makes a file with a snapshot beside
+//! the log's own file, reads the bytes back and compares them. Then the old file gets a mark as its last
+//! entry, and the new file gets the path. A process that still has the old file reads the mark, and goes
+//! to the file that has the path. If a process is killed meanwhile, one of both files is the log. It is
+//! the new file, or the old one: there a mark that is the last entry is cut off as long as the old file
+//! itself has the path.
 //!
-//! `look` takes the lock only to measure the file. Then `next` reads up to that length while others may have the lock,
-//! and writes nothing (`looking`).
+//! `look` takes the lock only to measure the file. Then `next` reads up to that length while other
+//! handles may have the lock, and writes nothing (`looking`).
 //!
-//! Each hold and each look finds whether the file has the path. One that was removed or renamed nobody else finds: the
-//! handle reads it to its end, and refuses then (`away`).
+//! Each hold and each look finds whether the file has the path. Nobody else finds a file that was removed
+//! or renamed: the handle reads that file to its end, and then refuses (`away`).
 
 ghost use Rattle.std.specs.Prelude.{◌≡◌, ◌≤◌, ◌<◌, ◌⊎◌, ◌↔◌, ◌++◌, List, ℕ, length, None, Some, Ok, Err};
 ghost use Rattle.std.specs.Prelude.{IfOk, IfErr, OnOk, OnErr, IfSome, IsTrue, true, false, nat_lt, string_bytes};
@@ -63,29 +65,31 @@ use std::rt::Files;
 use std::thread;
 use std::time::{Clock, Instant};
 
-/// A handle of a log in a file. It lets go of the log where it is dropped.
+/// A handle of a log in a file. It lets go of the log when it is dropped.
 pub struct FileLog<R> {
     rt: R,
     file: File,
-    /// The file's number since it was opened, or the log moved there.
+    /// The number of the file since it was opened, or since the log moved there.
     number: FileNumber,
     path: String,
     options: FileLogOptions,
     header: Header,
     cursor: Cursor,
-    /// Why the log refused the last call that it refused, except for a compaction that was declined.
+    /// The reason why the log refused the last call that it refused, except for a compaction that was
+    /// declined.
     fault: Option<FileFault>,
     /// When the last wait began.
     wait_start: Option<Instant>,
     /// The length of the file from which the next compaction is tried.
     tries_from: u64,
-    /// Whether this handle has the lock of its file.
+    /// True if this handle has the lock of its file.
     is_locked: bool,
-    /// Whether the file had the log's path no more when it was held or measured last.
+    /// True if the file no longer had the log's path when it was held or measured last.
     is_away: bool,
-    /// Whether the file was measured, so that what stood then is read, though the log isn't held.
+    /// True if the file was measured, so that the entries of that moment are read, though the log isn't
+    /// held.
     looks: bool,
-    /// Whether the file was opened to read only.
+    /// True if the file was opened to read only.
     only_reads: bool,
 }
 
@@ -135,7 +139,7 @@ impl<R: Drop> Drop for FileLog<R> {
 
 // ---- the file
 
-/// How long the file is, which must not be shorter than what was taken over of it.
+/// Returns the length of the file, which must not be shorter than the part that was taken over.
 fn measured(file: &File, position: u64) -> Result<u64, FileFault>
     ensures { IfOk result (λ file_length. position ≤ file_length) }
 {
@@ -151,9 +155,10 @@ fn measured(file: &File, position: u64) -> Result<u64, FileFault>
     }
 }
 
-/// The entry at the position, or `None` where no more bytes stand there, after those are cut off that are torn, or a
-/// mark of a file that has the path. `Moved` where another file has it. Nothing is cut off of a snapshot, which was
-/// synchronized before anybody found it: one that ends early, or within an entry, is damaged.
+/// Returns the entry at the position, or `None` if no more bytes follow. Torn bytes are cut off first,
+/// and so is a mark of a file that has the path. `Moved` if another file has the path. Nothing is cut off
+/// of a snapshot, which was synchronized before anybody found it: a snapshot that ends early, or within
+/// an entry, is damaged.
 fn next_at<R: Files + AllocGlobal>(
     rt: &R,
     path: &str,
@@ -187,8 +192,9 @@ fn next_at<R: Files + AllocGlobal>(
 // ---- the handle
 
 impl<R: Files<File = File> + Clock + RandomSource + AllocGlobal + Drop> FileLog<R> {
-    /// A handle of the log in the file of this path, which is made where nothing has it. Nobody ever sees a part of
-    /// the header, and of several processes that make it at once each takes what the first has made.
+    /// Opens the log in the file of this path, and makes the file if nothing has the path. Nobody ever
+    /// sees a part of the header. If several processes make the file at once, each takes the file that
+    /// the first one has made.
     pub fn open(rt: R, path: String, options: FileLogOptions) -> Result<FileLog<R>, FileLogError>
         ensures new { IfOk result (λ log. log ≡ new_handle (string_bytes path) options log.header) }
         ensures err { IfErr result (λ error. error.path ≡ path) }
@@ -197,7 +203,8 @@ impl<R: Files<File = File> + Clock + RandomSource + AllocGlobal + Drop> FileLog<
         FileLog::of_found(rt, path, options, found, false)
     }
 
-    /// A handle of the log in the file of this path, which is never made: `Failed` by `NotFound` where nothing has it.
+    /// Opens the log in the file of this path, and never makes the file. `Failed` by `NotFound` if
+    /// nothing has the path.
     pub fn open_existing(
         rt: R,
         path: String,
@@ -213,9 +220,9 @@ impl<R: Files<File = File> + Clock + RandomSource + AllocGlobal + Drop> FileLog<
         FileLog::of_found(rt, path, options, found, false)
     }
 
-    /// A handle that only reads the log in the file of this path, for anyone who may read the file and not write it.
-    /// The file is never made: `Failed` by `NotFound` where nothing has the path. `look` and `next` read the log, and
-    /// `hold` and `append` refuse.
+    /// Opens the log in the file of this path only to read it, for anyone who may read the file and not
+    /// write it. The file is never made: `Failed` by `NotFound` if nothing has the path. `look` and
+    /// `next` read the log; `hold` and `append` refuse.
     pub fn open_to_read(
         rt: R,
         path: String,
@@ -231,7 +238,7 @@ impl<R: Files<File = File> + Clock + RandomSource + AllocGlobal + Drop> FileLog<
         FileLog::of_found(rt, path, options, found, true)
     }
 
-    /// A handle of the log in the file that was found, or the error with its path.
+    /// Returns a handle of the log in the file that was found, or the error with its path.
     fn of_found(
         rt: R,
         path: String,
@@ -279,7 +286,8 @@ impl<R> FileLog<R> {
         &self.path
     }
 
-    /// What stands before the entries: the log's name, and where the counter of its services begins.
+    /// Returns the header before the entries: the log's name, and the number with which the counter of
+    /// its services begins.
     pub fn header(&self) -> Header
         ensures { result ≡ self.now.header }
     {
@@ -292,21 +300,23 @@ impl<R> FileLog<R> {
         self.cursor.state()
     }
 
-    /// Where the entries end that this handle has taken over or appended.
+    /// Returns the place in the file where the entries end that this handle has taken over or appended.
     pub fn position(&self) -> u64
         ensures { result ≡ self.now.cursor.position }
     {
         self.cursor.position()
     }
 
-    /// Why the log refused the last call that it refused, except for a compaction that was declined.
+    /// Returns the reason why the log refused the last call that it refused, except for a compaction that
+    /// was declined.
     pub fn fault(&self) -> Option<FileFault>
         ensures { result ≡ self.now.fault }
     {
         self.fault
     }
 
-    /// The same with the path. An `Err` comes only where there is a fault, and there was no memory.
+    /// Returns the same reason with the path. An `Err` comes only if there is a fault, and there was no
+    /// memory.
     pub fn error(&self) -> Result<Option<FileLogError>, AllocError>
         ensures { IfOk result (λ error. IsErrorOf self.now.path self.now.fault error) }
     {
@@ -316,7 +326,7 @@ impl<R> FileLog<R> {
         }
     }
 
-    /// Keeps why the log refused, and tells the same as a log's error.
+    /// Keeps the reason why the log refused, and returns it as a log's error.
     fn refuse(&mut self, why: FileFault) -> LogError
         ensures answer { result ≡ log_error_of why }
         ensures kept { self.new.fault ≡ Some why }
@@ -331,7 +341,7 @@ impl<R> FileLog<R> {
 }
 
 impl<R> FileLog<R> {
-    /// Keeps why the log refused, and tells the same as a log's error. The handle stays of use.
+    /// Keeps the reason why the log refused, and returns it as a log's error. The handle stays usable.
     fn tell(&mut self, why: FileFault) -> LogError
         ensures answer { result ≡ log_error_of why }
         ensures same { self.new ≡ record self.old { fault = Some why } }
@@ -372,7 +382,7 @@ impl<R: Files + Clock> FileLog<R> {
 }
 
 impl<R: Clock> FileLog<R> {
-    /// Whether a wait goes on with the pause of this number. With the number 0 it begins.
+    /// Returns true if a wait goes on with the pause of this number. The wait begins with the number 0.
     fn waits(&mut self, number: u64) -> bool
         ensures { self.new ≡ self.old }
     {
@@ -422,7 +432,7 @@ impl<R: Files + AllocGlobal> FileLog<R> {
 }
 
 impl<R: Files + AllocGlobal> FileLog<R> {
-    /// The next entry of a log that wasn't looked at, or the log's error, which is kept.
+    /// Returns the next entry of a log that wasn't looked at, or the log's error, which is kept.
     fn next_held(&mut self) -> Result<Option<Entry>, LogError>
         ensures shows { IfOk result (λ found. Shows found self.old.cursor self.new.cursor) }
         ensures no_mark { IfOk result IsNoMark }
@@ -482,10 +492,11 @@ impl<R: Files<File = File> + Clock + AllocGlobal> Log for FileLog<R> {
 
     ghost shown = { λ log. nat_lt 0 log.cursor.found };
 
-    /// `Busy` where others held it as long as the options allow, and `Damaged` where the file is shorter than what was
-    /// taken over of it. Each time it looks whether the file has the log's path. Where it surely hasn't, by a look that
-    /// the system permits, the log is held, but not used: `next` and `append` refuse by `Removed` until a later `hold`
-    /// finds that the file has its path back. `Failed`, by `ReadOnly`, where the file was opened to read only.
+    /// `Busy` if other handles held the log as long as the options allow. `Damaged` if the file is
+    /// shorter than the part that was taken over. Each hold looks whether the file has the log's path. If
+    /// the file surely doesn't have it, by a look that the system permits, the log is held, but not used:
+    /// `next` and `append` refuse by `Removed` until a later `hold` finds that the file has its path
+    /// back. `Failed`, by `ReadOnly`, if the file was opened to read only.
     fn hold(&mut self) -> Result<(), LogError>
         ensures ok { OnOk result (Holds self.old.cursor self.new.cursor × (self.new.fault ≡ self.old.fault)) }
         ensures err { IfErr result (λ e. IsRefused e self.new.fault self.old.cursor.state self.new.cursor.state) }
@@ -516,9 +527,10 @@ impl<R: Files<File = File> + Clock + AllocGlobal> Log for FileLog<R> {
         }
     }
 
-    /// `Busy` where others held it as long as the options allow, and `Damaged` where the file is shorter than what was
-    /// taken over of it. It looks whether the file has the log's path too: where it surely hasn't, `Removed` comes in
-    /// place of the file's end. A file that was opened to read only is looked at as any other.
+    /// `Busy` if other handles held the log as long as the options allow. `Damaged` if the file is
+    /// shorter than the part that was taken over. The call also looks whether the file has the log's
+    /// path: if the file surely doesn't have it, `next` gives `Removed` instead of the file's end. A file that
+    /// was opened to read only is looked at like any other.
     fn look(&mut self) -> Result<(), LogError>
         ensures ok { OnOk result (LooksAt self.old self.new) }
         ensures was_free { OnOk result (self.old.is_locked ≡ false) }
@@ -542,16 +554,18 @@ impl<R: Files<File = File> + Clock + AllocGlobal> Log for FileLog<R> {
         }
     }
 
-    /// What is left of the file is cut off where it is torn, or a mark of a file that has the path, and then there is
-    /// no entry. `Moved` where what is left is a mark, and another file has the path. A snapshot that ends early, or
-    /// within an entry, is damaged. Where the options synchronize and a cut could not be, the handle is used no more.
+    /// If the rest of the file is torn, or a mark of a file that has the path, it is cut off, and there
+    /// is no entry. `Moved` if the rest is a mark, and another file has the path. A snapshot that ends
+    /// early, or within an entry, is damaged. If the options synchronize and a cut could not be
+    /// synchronized, the handle is unusable.
     ///
-    /// Of a file that hadn't the log's path when it was held nothing is cut off, and where no entry and no mark is left
-    /// `Failed` comes, by `Removed`.
+    /// If the file didn't have the log's path when it was held, nothing is cut off. When no entry and no mark
+    /// is left, `Failed` comes, by `Removed`.
     ///
-    /// Where the log was looked at and isn't held, what stood when the file was measured is shown, up to an end that is
-    /// torn, or a mark of a file that has the path. Nothing is cut off, and an error leaves the handle of use: what it
-    /// finds damaged others may have cut off meanwhile.
+    /// If the log was looked at and isn't held, the call shows the entries that stood when the file was
+    /// measured. It stops at an end that is torn, or at a mark of a file that has the path. Nothing is
+    /// cut off, and an error leaves the handle usable: other handles may meanwhile have cut off bytes
+    /// that it finds damaged.
     fn next(&mut self) -> Result<Option<Entry>, LogError>
         ensures shows { self.old.looks ≡ false → IfOk result (λ found. Shows found self.old.cursor self.new.cursor) }
         ensures looks { self.old.looks ≡ true → LooksNext result self.old self.new }
@@ -578,16 +592,16 @@ impl<R: Files<File = File> + Clock + AllocGlobal> Log for FileLog<R> {
         self.next_held()
     }
 
-    /// Only what `next` has found since the log was held is taken over.
+    /// Takes over only an entry that `next` has found since the log was held.
     fn accept(&mut self)
         ensures { self.new ≡ record self.old { cursor = accepted self.old.cursor } }
     {
         accept(&LockedFile::new(&self.file), &mut self.cursor);
     }
 
-    /// Where a part of the entry may stand that could not be taken back, or come back with the power though the options
-    /// synchronize, the handle is used no more. `Failed`, by `Removed`, where the file hadn't the log's path when it
-    /// was held.
+    /// The handle is unusable if a part of the entry may stand that could not be taken back. The same is
+    /// true if that part may come back after a power loss though the options synchronize. `Failed`, by
+    /// `Removed`, if the file didn't have the log's path when it was held.
     fn append(&mut self, entry: &Entry) -> Result<(), LogError>
         ensures ok { OnOk result (Appends entry.now self.old.cursor self.new.cursor
             × (self.new.fault ≡ self.old.fault)) }
@@ -613,7 +627,7 @@ impl<R: Files<File = File> + Clock + AllocGlobal> Log for FileLog<R> {
         self.looks = false;
     }
 
-    /// False where the wait has taken the time that the options allow, and where the clock refuses.
+    /// Returns false if the wait has taken the time that the options allow, or if the clock refuses.
     fn pause(&mut self, number: u64) -> bool
         ensures { Pauses result self.old self.new }
     {
@@ -625,9 +639,9 @@ impl<R: Files<File = File> + Clock + AllocGlobal> Log for FileLog<R> {
         true
     }
 
-    /// Nothing changes but the fault where it is refused. `Failed` where the log is neither held nor was looked at, the
-    /// file that has the path is of another log, or no file has it, and `Busy` where others held it as long as the
-    /// options allow.
+    /// If the call is refused, nothing changes but the fault. `Failed` if the log is neither held nor was
+    /// looked at, if the file that has the path is of another log, or if no file has the path. `Busy` if
+    /// other handles held the log as long as the options allow.
     fn rejoin(&mut self) -> Result<u64, LogError>
         ensures ok { self.old.looks ≡ false → IfOk result (λ counter. Rejoins counter self.old self.new) }
         ensures looks { self.old.looks ≡ true → IfOk result (λ counter. LooksElsewhere counter self.old self.new) }
@@ -654,21 +668,23 @@ impl<R: Files<File = File> + Clock + AllocGlobal> Log for FileLog<R> {
         is_before_end(self.cursor.position(), &self.header)
     }
 
-    /// It has more than 64 KiB, and as many as the next compaction waits for: eight times those up to the end of its
-    /// snapshot, or what the last one waits for that was refused or put off since this handle found the file.
+    /// Returns true if the file is longer than 64 KiB, and as long as the next compaction waits for. That
+    /// length is eight times the bytes up to the end of the file's snapshot. If a compaction was refused or
+    /// put off since this handle found the file, it is the length for which the last such compaction waits.
     fn is_long(&self) -> bool
         ensures { IsTrue result ↔ IsLong self.now.cursor.file_length self.now.tries_from }
     {
         is_long(self.cursor.file_length(), self.tries_from)
     }
 
-    /// The handle stands at the end of the new file, behind the snapshot. `Failed` where the log isn't held, an entry
-    /// is unread, the new file holds other bytes than were written to it, or the old one has fewer than eight times the
-    /// bytes of the new one. In this last case the next compaction is tried when the file has so many, and after any
-    /// other error 64 KiB later. `Moved` where the old file hasn't the log's path by now, or has another name too: then
-    /// no file takes the path. No fault is kept unless the new file was made: the log goes on as it is. Where the mark
-    /// could not be taken back from the old file, or the new one may lose the path with the power, the handle is used
-    /// no more.
+    /// Leaves the handle at the end of the new file, behind the snapshot. `Failed` if the log isn't held,
+    /// an entry is unread, the new file holds other bytes than were written to it, or the old file has
+    /// fewer than eight times the bytes of the new one. In this last case the next compaction is tried
+    /// when the file has eight times those bytes, and after any other error 64 KiB later. `Moved` if the old file
+    /// no longer has the log's path, or has another name too: then no file takes the path. No fault is
+    /// kept unless the new file was made: the log goes on as it is. The handle is unusable if the mark
+    /// could not be taken back from the old file, or if the new file may lose the path after a power
+    /// loss.
     fn compact(&mut self, snapshot: &[Entry]) -> Result<(), LogError>
         ensures ok { OnOk result (Compacts snapshot.now self.old self.new) }
         ensures err { IfErr result (λ e. RefusesCompaction snapshot.now e self.old self.new) }
@@ -683,7 +699,7 @@ impl<R: Files<File = File> + Clock + AllocGlobal> Log for FileLog<R> {
         }
     }
 
-    /// The next one is tried when the file has 64 KiB more than it has now.
+    /// The next compaction is tried when the file has 64 KiB more than it has now.
     fn put_off_compaction(&mut self)
         ensures { self.new ≡ postponed self.old }
     {

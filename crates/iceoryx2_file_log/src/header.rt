@@ -1,5 +1,6 @@
-//! What stands before the entries in the file of a log: what file it is, which log it has, with which number the
-//! counter of its services begins, and how long the snapshot is with which its entries begin.
+//! The header before the entries in the file of a log. It tells what file this is, which log it has, with
+//! which number the counter of its services begins, and how long the snapshot is with which its entries
+//! begin.
 
 ghost use Rattle.std.specs.Prelude.{◌≡◌, ◌≢◌, ◌<◌, ◌^◌, ◌++◌, ◌↔◌, ℕ, Ok, Err, IfOk, OnOk, IfSome, All, length};
 ghost use Rattle.std.specs.Int.{w64};
@@ -15,16 +16,16 @@ ghost use Rattle.iceoryx2_file_log.specs.HeaderReading.{version_at, summed_in, f
 use sha1::Sha1;
 use std::alloc::{AllocError, Global};
 
-/// How many bytes the header has.
+/// The number of bytes of the header.
 pub const HEADER_LENGTH: usize = 48;
 
-/// How many bytes the sum is of: all that stand before it.
+/// The number of bytes that the sum is of: all bytes before it.
 pub const SUMMED_LENGTH: usize = 40;
 
-/// How many bytes of the SHA-1 of those before it the sum has.
+/// The number of bytes of the sum, which are the first ones of the SHA-1 of the bytes before it.
 pub const SUM_LENGTH: usize = 8;
 
-/// How many bytes the name of a log has.
+/// The number of bytes of a log's name.
 pub const NAME_LENGTH: usize = 16;
 
 /// The version of the form of a log's file.
@@ -46,24 +47,25 @@ pub fn lengths()
 #[derive(Clone, Copy, Debug, PartialEq, Eq)]
 pub struct LogName(pub [u8; NAME_LENGTH]);
 
-/// What stands before the entries.
+/// The header of a log's file, which comes before the entries.
 #[derive(Clone, Copy, Debug, PartialEq, Eq)]
 pub struct Header {
     pub name: LogName,
     /// The number with which the counter of its services begins.
     pub counter: u64,
-    /// How many bytes the entries have with which the log begins: those of a compaction, and else none.
+    /// The number of bytes of the entries with which the log begins: those of a compaction, and else
+    /// none.
     pub snapshot_length: u64,
 }
 
-/// Why bytes are no header.
+/// The reason why bytes are no header.
 #[derive(Clone, Copy, Debug, PartialEq, Eq)]
 pub enum HeaderError {
-    /// They don't begin as the file of a log does.
+    /// The bytes don't begin as the file of a log does.
     NotALog,
-    /// They are of another version.
+    /// The bytes are of another version.
     AnotherVersion { found: u8 },
-    /// They begin as this version's do, and are the form of no header.
+    /// The bytes begin as this version's do, and are the form of no header.
     Damaged,
 }
 
@@ -121,7 +123,7 @@ fn put_summed(out: &mut Vec<u8>, header: &Header) -> Result<(), AllocError>
     put_numbers(out, header)
 }
 
-/// The byte form of the header.
+/// Returns the byte form of the header.
 pub fn encode(alloc: Global, header: &Header) -> Result<Vec<u8>, AllocError>
     ensures { IfOk result (λ bytes. IsForm header.now bytes.items) }
 {
@@ -181,7 +183,7 @@ fn byte_of(bytes: &[u8]) -> Option<(u8, &[u8])>
     }
 }
 
-/// The version, which stands after the magic.
+/// Reads the version, which follows the magic.
 #[tactic(auto, unfolding(crate::specs::HeaderReading::version_at))]
 fn version_of(bytes: &[u8]) -> Option<u8>
     ensures { IsPart (λ v. v) result (version_at bytes.now) }
@@ -191,7 +193,7 @@ fn version_of(bytes: &[u8]) -> Option<u8>
     Some(version)
 }
 
-/// The bytes that their sum follows.
+/// Returns the bytes before their sum.
 #[tactic(auto, unfolding(crate::specs::HeaderReading::summed_in))]
 fn summed_of(bytes: &[u8]) -> Option<&[u8]>
     ensures { IsPart (λ x. x.now) result (summed_in bytes.now) }
@@ -221,7 +223,7 @@ fn fields_of(bytes: &[u8]) -> Option<Header>
     })
 }
 
-/// The header whose form the bytes are.
+/// Returns the header whose form the bytes are.
 #[tactic(auto, unfolding(crate::specs::HeaderReading::header_in))]
 fn header_of(bytes: &[u8]) -> Option<Header>
     ensures { IsPart (λ h. h) result (header_in bytes.now) }
@@ -231,7 +233,7 @@ fn header_of(bytes: &[u8]) -> Option<Header>
     fields_of(fields)
 }
 
-/// Why bytes that are the form of no header aren't.
+/// Returns the reason why bytes that are the form of no header aren't.
 fn fault(bytes: &[u8]) -> HeaderError
     ensures { result ≡ fault_of (version_at bytes.now) }
 {
@@ -247,7 +249,7 @@ fn fault(bytes: &[u8]) -> HeaderError
     }
 }
 
-/// The header whose byte form the bytes are.
+/// Returns the header whose byte form the bytes are.
 pub fn decode(bytes: &[u8]) -> Result<Header, HeaderError>
     ensures header { (h : declared.Header) → (result ≡ Ok h) ↔ IsForm h bytes.now }
     ensures not_a_log { (result ≡ Err errors.NotALog) ↔ ((version : ℕ) → HasVersion version bytes.now → ⊥) }

@@ -1,5 +1,5 @@
-//! A real file under its advisory lock. What it holds is known to no contract: that each of these few lines does what
-//! `Medium` says is trusted by reading.
+//! A real file under its advisory lock. No contract knows its content. We trust, by reading, that each of
+//! these few lines does what `Medium` says.
 
 ghost use Rattle.std.specs.Prelude.{None};
 

@@ -1,4 +1,5 @@
-//! A file in memory, for tests: what it holds is known, and what others do and what refuses is handed in.
+//! A file in memory, for tests: its content is known, and a test hands in the others' changes and the
+//! refusals.
 
 ghost use Rattle.std.specs.Prelude.{◌≡◌, ◌≤◌, ◌↔◌, false, length, IfOk, IsTrue};
 ghost use Rattle.iceoryx2_file_log.specs.Medium.{written};
@@ -7,16 +8,16 @@ use crate::error::FileFault;
 use crate::medium::Medium;
 use std::alloc::{AllocError, Global};
 
-/// What a file in memory refuses.
+/// The refusals of a file in memory.
 #[derive(Clone, Copy)]
 pub struct Refusals {
-    /// How many tries to take the lock find that others have it.
+    /// The number of tries to take the lock that find that others have it.
     pub busy: u64,
-    /// After how many bytes each write is refused.
+    /// The number of bytes after which each write is refused.
     pub write: Option<usize>,
-    /// Whether each cut is refused.
+    /// True if each cut is refused.
     pub cut: bool,
-    /// Whether nothing can be synchronized.
+    /// True if nothing can be synchronized.
     pub sync: bool,
 }
 
@@ -28,7 +29,7 @@ pub const NOTHING_REFUSED: Refusals = Refusals {
     sync: false,
 };
 
-/// A file in memory. What others append stands there when the lock is granted the first time.
+/// A file in memory. Bytes that others append are there when the lock is granted for the first time.
 pub struct MemoryFile {
     alloc: Global,
     bytes: Vec<u8>,
@@ -56,7 +57,7 @@ impl Drop for MemoryFile {
     }
 }
 
-/// The bytes with these written there.
+/// Returns the bytes with these written there.
 fn with_written(alloc: Global, old: &[u8], at: usize, bytes: &[u8]) -> Result<Vec<u8>, AllocError>
     requires { at ≤ length old.now }
     ensures { IfOk result (λ new. new.items ≡ written at bytes.now old.now) }
@@ -73,8 +74,8 @@ impl MemoryFile {
     ghost use Rattle.iceoryx2_file_log.specs.Memory.{known_of};
     ghost use Rattle.iceoryx2_file_log.specs.Medium.{IsFree};
 
-    /// A file of these bytes, to which others append so many. The lock is free. A read gives at most so many bytes, and
-    /// at least one.
+    /// Returns a file of these bytes, to which others append those. The lock is free. A read gives at
+    /// most so many bytes, and at least one.
     pub fn new(
         alloc: Global,
         bytes: Vec<u8>,
@@ -103,7 +104,7 @@ impl MemoryFile {
         &self.bytes
     }
 
-    /// Whether nobody has the lock.
+    /// Returns true if nobody has the lock.
     pub fn is_free(&self) -> bool
         ensures { IsTrue result ↔ IsFree (known_of self.now) }
     {

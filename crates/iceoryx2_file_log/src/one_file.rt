@@ -1,8 +1,8 @@
-//! What a handle does in the one file in which it stands, over any medium. Where the bytes are known each call says
-//! what it makes of the contents: the entries to which the bytes come.
+//! The work of a handle in the one file in which it stands, over any medium. If the bytes are known, each
+//! call states what it makes of the contents: the entries to which the bytes come.
 //!
-//! A mark is no entry. It is left where it stands: only a caller who knows the path can go to another file, or cut it
-//! off.
+//! A mark is no entry, and is left in its place: only a caller who knows the path can go to another file,
+//! or cut the mark off.
 
 ghost use Rattle.std.specs.Prelude.{◌≡◌, ◌≢◌, ◌≤◌, ◌<◌, ◌⊎◌, ℕ, false, None, Ok, Err, length, nat_lt};
 ghost use Rattle.std.specs.Prelude.{IfOk, IfErr, OnOk, OnErr, IfSome};
@@ -32,21 +32,21 @@ use std::alloc::Global;
 use std::io::ErrorKind;
 use std::time::{Clock, Duration};
 
-/// What a handle finds at its position.
+/// The things that a handle may find at its position.
 #[derive(Debug, Drop)]
 pub enum Found {
     /// An entry of the log, which stays unread.
     Entry(Entry),
-    /// No more bytes, after what a writer left that died is cut off.
+    /// No more bytes, after the remainder of a writer that died is cut off.
     End,
-    /// The mark that the log goes on in another file, of so many bytes. It is left there.
+    /// The mark, of so many bytes, that the log goes on in another file. It is left there.
     Mark { count: usize },
 }
 
 // ---- hold and let go
 
-/// Holds the log. `Busy` where others held it all of this time, and `Damaged` where the file is shorter than what was
-/// taken over of it. An `Err` leaves the handle where it stood.
+/// Holds the log. `Busy` if other handles held it for all of this time. `Damaged` if the file is shorter
+/// than the part that was taken over. An `Err` leaves the handle where it was.
 pub fn hold<C: Clock, M: Medium>(
     clock: &C,
     medium: &mut M,
@@ -92,8 +92,9 @@ pub fn let_go<M: Medium>(medium: &mut M, cursor: &mut Cursor)
 
 // ---- next and accept
 
-/// Cuts off what stands at the position, all of which is torn, or a mark, and synchronizes that. `Unsure` where that is
-/// wanted and can't be, and another error where nothing was cut off, or that isn't wanted.
+/// Cuts off the bytes at the position, all of which are torn, or a mark, and synchronizes that. `Unsure`
+/// if that is wanted and can't be synchronized. Another error if nothing was cut off, or if synchronizing
+/// isn't wanted.
 pub fn cut_end<M: Medium>(
     medium: &mut M,
     cursor: &mut Cursor,
@@ -123,7 +124,7 @@ pub fn cut_end<M: Medium>(
     }
 }
 
-/// The entry that was found is taken over.
+/// Takes over the entry that was found.
 pub fn accept<M: Medium>(medium: &M, cursor: &mut Cursor)
     requires { IfSome (M.known medium.now) (Fits cursor.old) }
     ensures place { cursor.new ≡ accepted cursor.old }
@@ -137,8 +138,8 @@ pub fn accept<M: Medium>(medium: &M, cursor: &mut Cursor)
     cursor.accept();
 }
 
-/// The entry at the position, the end of the file, after what is torn there is cut off, or the mark that stands there.
-/// `Damaged` where it is none of these, or a snapshot ends early, or within an entry.
+/// Returns the entry at the position, the end of the file after torn bytes there are cut off, or the mark
+/// at the position. `Damaged` if none of these is there, or if a snapshot ends early, or within an entry.
 pub fn next<M: Medium>(
     alloc: Global,
     medium: &mut M,
@@ -201,8 +202,9 @@ pub fn next<M: Medium>(
 
 // ---- append
 
-/// Takes back what a write at the end has left that failed by this error, and gives why it is refused. `Unsure` where
-/// it can't be taken back, or that can't be synchronized where it is wanted.
+/// Takes back what a write at the end, which failed by this error, has left, and returns the reason of
+/// its refusal. `Unsure` if that can't be taken back, or if it can't be synchronized although that is
+/// wanted.
 fn take_back<M: Medium>(
     medium: &mut M,
     cursor: &Cursor,
@@ -220,8 +222,8 @@ fn take_back<M: Medium>(
     }
 }
 
-/// Writes the form of an entry at the position, all of it or nothing. `Unsure` where a part that was written could not
-/// be taken back, or may come back with the power though that is to be synchronized.
+/// Writes the form of an entry at the position, all of it or nothing. `Unsure` if a written part could
+/// not be taken back, or may come back after a power loss though it is to be synchronized.
 fn write_form<M: Medium>(
     medium: &mut M,
     cursor: &mut Cursor,
@@ -260,8 +262,9 @@ fn write_form<M: Medium>(
     }
 }
 
-/// Appends an entry, where the log is held and nothing is unread, all of it or nothing. A mark is no entry, and is
-/// refused. After `Unsure` nobody knows whether the entry stands, and the handle has to be used no more (`refused`).
+/// Appends an entry, all of it or nothing, if the log is held and nothing is unread. A mark is no entry,
+/// and is refused. After `Unsure` nobody knows whether the entry stands, and the handle has to be used no
+/// more (`refused`).
 pub fn append<M: Medium>(
     alloc: Global,
     medium: &mut M,

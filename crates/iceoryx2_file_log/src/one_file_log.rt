@@ -1,5 +1,5 @@
-//! A log in one file, over any medium: its contents are known where the bytes of the file are. It is never compacted,
-//! and refuses where another handle has moved the log to another file.
+//! A log in one file, over any medium: its contents are known if the bytes of the file are. It is never
+//! compacted, and it refuses if another handle has moved the log to another file.
 
 ghost use Rattle.std.specs.Prelude.{◌≡◌, ◌≤◌, true, false, nat_lt, length, IfOk, OnOk, OnErr, IfSome};
 ghost use Rattle.iceoryx2_file_log.specs.declared.header.TheConstants.{HEADER_LENGTH};
@@ -26,13 +26,13 @@ pub struct OneFileLog<R, M: Medium> {
     medium: M,
     header: Header,
     cursor: Cursor,
-    /// Whether this handle has the lock of the file.
+    /// True if this handle has the lock of the file.
     is_locked: bool,
-    /// Whether what it does is to outlive the machine.
+    /// True if its changes are to outlive the machine.
     synchronizes: bool,
-    /// How long `hold` tries while others hold the log.
+    /// The time for which `hold` tries while other handles hold the log.
     patience: Duration,
-    /// How many pauses each wait has.
+    /// The number of pauses of each wait.
     pauses: u64,
 }
 
@@ -77,7 +77,7 @@ impl<R, M: Medium> Model for OneFileLog<R, M> {
 impl<R: AllocGlobal, M: Medium> OneFileLog<R, M> {
     ghost use Rattle.iceoryx2_file_log.specs.Place.{start};
 
-    /// A handle that has taken nothing over yet, of a file with this header.
+    /// Returns a handle of a file with this header. It has taken nothing over yet.
     pub fn new(
         rt: R,
         medium: M,
@@ -112,15 +112,15 @@ impl<R: AllocGlobal, M: Medium> OneFileLog<R, M> {
 }
 
 impl<R, M: Medium> OneFileLog<R, M> {
-    /// The file, for its readers.
+    /// Returns the file, for its readers.
     pub fn medium(&self) -> &M
         ensures { result.now ≡ self.now.medium }
     {
         &self.medium
     }
 
-    /// What this handle has taken is a front of the list to which the bytes come later, whoever had them meanwhile. So
-    /// all handles of one file take over one list.
+    /// The entries that this handle has taken over are a prefix of the list to which the bytes come
+    /// later, whoever had them meanwhile. So all handles of one file take over one list.
     pub fn law_of_one_list(&self)
         ensures { IfSome (M.known self.now.medium) (HasTakenAFront self.now.cursor) }
     {
@@ -129,7 +129,7 @@ impl<R, M: Medium> OneFileLog<R, M> {
 }
 
 impl<R: Drop, M: Medium> OneFileLog<R, M> {
-    /// The file, for another handle.
+    /// Returns the file, for another handle.
     pub fn into_medium(self) -> M
         ensures { result ≡ self.medium }
     {
@@ -157,8 +157,8 @@ impl<R: Clock + AllocGlobal, M: Medium> Log for OneFileLog<R, M> {
 
     ghost shown = { λ log. nat_lt 0 log.cursor.found };
 
-    /// `Busy` where others held it as long as the patience is, and `Damaged` where the file is shorter than what was
-    /// taken over of it.
+    /// `Busy` if other handles held the log for all of the patience. `Damaged` if the file is shorter
+    /// than the part that was taken over.
     fn hold(&mut self) -> Result<(), LogError> {
         match one_file::hold(&self.rt, &mut self.medium, &mut self.cursor, self.patience) {
             Ok(()) => {
@@ -172,14 +172,14 @@ impl<R: Clock + AllocGlobal, M: Medium> Log for OneFileLog<R, M> {
         }
     }
 
-    /// `Failed`, since what its file holds is known only as long as it has the lock.
+    /// `Failed`, since the file's bytes are known only as long as this handle has the lock.
     fn look(&mut self) -> Result<(), LogError> {
         Err(LogError::Failed)
     }
 
-    /// Where there is no entry nothing stands behind the position: what a writer left that died is cut off. `Damaged`
-    /// where it is nothing that a writer leaves, and `Moved` where a mark stands there. Where the handle synchronizes
-    /// and a cut could not be, it is used no more.
+    /// If there is no entry, nothing is left behind the position: the remainder of a writer that died is
+    /// cut off. `Damaged` if the bytes are nothing that a writer leaves, and `Moved` if a mark is there.
+    /// If the handle synchronizes and a cut could not be synchronized, the handle is unusable.
     fn next(&mut self) -> Result<Option<Entry>, LogError>
         ensures shows { IfOk result (λ found. WhereKnown (Shows found)
             (contents_of self.old.header.counter (M.known self.old.medium) self.old.cursor)
@@ -216,7 +216,8 @@ impl<R: Clock + AllocGlobal, M: Medium> Log for OneFileLog<R, M> {
         one_file::accept(&self.medium, &mut self.cursor);
     }
 
-    /// Where a part of the entry may stand that could not be taken back, the handle is used no more. A mark is refused.
+    /// If a part of the entry may stand that could not be taken back, the handle is unusable. A mark is
+    /// refused.
     fn append(&mut self, entry: &Entry) -> Result<(), LogError>
         ensures ok { OnOk result (WhereKnown (Appends entry.now)
             (contents_of self.old.header.counter (M.known self.old.medium) self.old.cursor)
@@ -248,7 +249,7 @@ impl<R: Clock + AllocGlobal, M: Medium> Log for OneFileLog<R, M> {
         self.is_locked = false;
     }
 
-    /// False where the wait has had all of its pauses.
+    /// Returns false if the wait has had all of its pauses.
     fn pause(&mut self, number: u64) -> bool {
         if self.pauses <= number {
             return false;
@@ -258,7 +259,7 @@ impl<R: Clock + AllocGlobal, M: Medium> Log for OneFileLog<R, M> {
         true
     }
 
-    /// `Failed`, since it goes to no other file.
+    /// `Failed`, since this log goes to no other file.
     fn rejoin(&mut self) -> Result<u64, LogError> {
         Err(LogError::Failed)
     }
@@ -267,12 +268,12 @@ impl<R: Clock + AllocGlobal, M: Medium> Log for OneFileLog<R, M> {
         is_before_end(self.cursor.position(), &self.header)
     }
 
-    /// Never, since it is not compacted.
+    /// Returns false, since this log is not compacted.
     fn is_long(&self) -> bool {
         false
     }
 
-    /// `Failed`, since it goes to no other file.
+    /// `Failed`, since this log goes to no other file.
     fn compact(&mut self, _snapshot: &[Entry]) -> Result<(), LogError> {
         Err(LogError::Failed)
     }

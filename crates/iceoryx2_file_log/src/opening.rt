@@ -15,7 +15,7 @@ use std::os::unix::fs::{FileExt, MetadataExt, OpenOptionsExt, PermissionsExt};
 use std::random::RandomSource;
 use std::rt::Files;
 
-/// How often the file is looked for, where another process makes or removes it meanwhile.
+/// How often the file is looked for if another process makes or removes it meanwhile.
 const OPENINGS: u32 = 8;
 
 /// By which the system knows a file: its device and its number there.
@@ -25,7 +25,7 @@ pub(crate) struct FileNumber {
     inode: u64,
 }
 
-/// Why this is not opened as a file, if so.
+/// Returns the reason why this is not opened as a file, if there is one.
 fn kind_fault(metadata: &Metadata) -> Option<FileFault>
     ensures fault { IsFaultOf (file_type metadata.now) result }
     ensures file { IfSome result IsOfFile }
@@ -41,7 +41,7 @@ fn kind_fault(metadata: &Metadata) -> Option<FileFault>
     }
 }
 
-/// Why a log with this header is not opened.
+/// Returns the reason why a log with this header is not opened.
 fn header_fault(error: HeaderError) -> FileFault
     ensures { result ≡ header_fault_of error }
 {
@@ -59,7 +59,7 @@ pub(crate) fn number_of(metadata: &Metadata) -> FileNumber {
     }
 }
 
-/// The file that has this path, or `None` where nothing has it. A symbolic link is not followed.
+/// Returns the file that has this path, or `None` if nothing has it. A symbolic link is not followed.
 pub(crate) fn looked_up(rt: &impl Files, path: &str) -> Result<Option<FileNumber>, FileFault>
     ensures { IfErr result IsOfFile }
 {
@@ -78,7 +78,7 @@ pub(crate) fn looked_up(rt: &impl Files, path: &str) -> Result<Option<FileNumber
     }
 }
 
-/// As many of the file's bytes from there on as there are and fit.
+/// Reads as many of the file's bytes from this place on as there are and fit.
 pub(crate) fn read_some(file: &File, buffer: &mut [u8], from: u64) -> Result<usize, FileFault>
     ensures within { IfOk result (λ count. count ≤ length buffer.new) }
     ensures file { IfErr result IsOfFile }
@@ -115,8 +115,8 @@ fn read_header(file: &File) -> Result<Header, FileFault> {
     }
 }
 
-/// Opens the file that was looked up, to write too where that is wanted. `None` where it is gone, or another one has
-/// its path.
+/// Opens the file that was looked up, also to write if that is wanted. `None` if the file is gone, or
+/// another file has its path.
 fn open_found(
     rt: &impl Files<File = File>,
     path: &str,
@@ -146,9 +146,9 @@ fn open_found(
     }
 }
 
-/// Opens the file that has this path, to read, and to write too where that is wanted, and gives by which number the
-/// system knows it. `None` where nothing has the path. A symbolic link is not followed, and what is no file is not
-/// opened.
+/// Opens the file that has this path to read it, also to write if that is wanted. Returns the file with
+/// the number by which the system knows it. `None` if nothing has the path. A symbolic link is not
+/// followed, and only a file is opened.
 pub(crate) fn find_numbered(
     rt: &impl Files<File = File>,
     path: &str,
@@ -171,8 +171,8 @@ pub(crate) fn find_numbered(
     })
 }
 
-/// Opens the file that has this path, to read only, or `None` where nothing has it. A symbolic link is not followed, and
-/// what is no file is not opened.
+/// Opens the file that has this path, to read only. `None` if nothing has the path. A symbolic link is
+/// not followed, and only a file is opened.
 pub fn find_file(rt: &impl Files<File = File>, path: &str) -> Result<Option<File>, FileFault>
     ensures { IfErr result IsOfFile }
 {
@@ -190,7 +190,7 @@ pub(crate) fn sync_folder(rt: &impl Files<File = File>, path: &str) -> io::Resul
     folder.sync_all()
 }
 
-/// Makes a file of these bytes, which wasn't there.
+/// Makes a file of these bytes, which wasn't there before.
 fn write_beside(
     rt: &impl Files<File = File>,
     beside: &str,
@@ -208,9 +208,9 @@ fn write_beside(
     file.sync_all()
 }
 
-/// Makes a file of these bytes and this mode under another name beside its own, whole and synchronized, and links it
-/// to its own, so that nobody ever sees a part of it. Where something has the path already it stays, and nothing is
-/// made.
+/// Makes a file of these bytes and this mode under another name beside its own, whole and synchronized.
+/// Then links it to its own name, so that nobody ever sees a part of it. If something has the path
+/// already, it stays, and nothing is made.
 fn make_file<R: Files<File = File> + RandomSource + AllocGlobal>(
     rt: &R,
     path: &str,
@@ -234,7 +234,8 @@ fn make_file<R: Files<File = File> + RandomSource + AllocGlobal>(
     }
 }
 
-/// Opens the file of this path, to read and to write, and makes an empty one of this mode where nothing has it.
+/// Opens the file of this path to read and to write, and makes an empty file of this mode if nothing has
+/// the path.
 pub fn find_or_make_file<R: Files<File = File> + RandomSource + AllocGlobal>(
     rt: &R,
     path: &str,
@@ -255,7 +256,7 @@ pub fn find_or_make_file<R: Files<File = File> + RandomSource + AllocGlobal>(
     })
 }
 
-/// A header with a name that was drawn by chance.
+/// Returns a header with a random name.
 fn new_header(rt: &impl RandomSource) -> io::Result<Header> {
     let mut name = [0u8; NAME_LENGTH];
     rt.fill_bytes(&mut name)?;
@@ -298,7 +299,7 @@ fn read_found(file: File, number: FileNumber) -> Result<FoundLog, FileFault> {
     })
 }
 
-/// Opens the file of the log, and makes it where nothing has its path.
+/// Opens the file of the log, and makes it if nothing has its path.
 pub(crate) fn opened<R: Files<File = File> + RandomSource + AllocGlobal>(
     rt: &R,
     path: &str,
@@ -317,8 +318,8 @@ pub(crate) fn opened<R: Files<File = File> + RandomSource + AllocGlobal>(
     })
 }
 
-/// Opens the file of the log that has this path now, to write too where that is wanted, or answers this fault where
-/// nothing has it.
+/// Opens the file of the log that has this path now, also to write if that is wanted. Answers this fault
+/// if nothing has the path.
 pub(crate) fn reopened(
     rt: &impl Files<File = File>,
     path: &str,

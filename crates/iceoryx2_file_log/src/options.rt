@@ -7,17 +7,17 @@ ghost use Rattle.iceoryx2_file_log.specs.Options.{mode_of};
 
 use std::time::Duration;
 
-/// Who may read and write the file of a log.
+/// The users who may read and write the file of a log.
 #[derive(Clone, Copy, Debug, PartialEq, Eq)]
 pub enum Sharing {
-    /// The user alone whose process made it.
+    /// Only the user whose process made the file.
     User,
-    /// The group of the file too.
+    /// That user, and the group of the file.
     Group,
 }
 
 impl Sharing {
-    /// The same as the bits of a file's mode.
+    /// Returns the bits of a file's mode that stand for this.
     pub fn mode(self) -> u32
         ensures { result ≡ mode_of self }
     {
@@ -28,22 +28,23 @@ impl Sharing {
     }
 }
 
-/// How a log in a file is used. Processes that share a log may use it differently.
+/// The options of a log in a file. Processes that share a log may use different options.
 #[derive(Clone, Copy, Debug, PartialEq, Eq)]
 pub struct FileLogOptions {
-    /// How long `hold` tries while others hold the log.
+    /// The time for which `hold` tries while other handles hold the log.
     pub patience: Duration,
-    /// How long a look for a service waits in all while a node is creating it. No pause begins after that.
+    /// The total time for which a look for a service waits while a node is creating it. No pause begins
+    /// after that.
     pub creation_timeout: Duration,
-    /// Whether what is appended is synchronized, and the name of a file that is made, so that they survive a power
-    /// loss.
+    /// True if appended entries are synchronized, and the name of a file that is made, so that they
+    /// survive a power loss.
     pub synchronizes: bool,
-    /// Who may read and write a file that is made. One that is there already keeps its mode.
+    /// The users who may read and write a file that is made. A file that is there already keeps its mode.
     pub sharing: Sharing,
 }
 
 impl FileLogOptions {
-    /// Half a second for each, not synchronized, for this user alone.
+    /// Returns the defaults: half a second for each time, not synchronized, for this user alone.
     pub fn new() -> FileLogOptions
         ensures patience { as_nanos result.patience ≡ 500000000 }
         ensures creation_timeout { as_nanos result.creation_timeout ≡ 500000000 }

@@ -2,8 +2,8 @@
 
 ghost use Rattle.iceoryx2_file_log.specs.Path.{IsSplit};
 
-/// The folder of the path, and the name in it, which stands behind the last slash. A path without a slash is a name in
-/// the folder `.`.
+/// Returns the folder of the path, and the name in it, which follows the last slash. A path without a
+/// slash is a name in the folder `.`.
 #[tactic(auto, using(crate::proofs::Paths::in_place, crate::proofs::Paths::in_root, crate::proofs::Paths::in_folder))]
 pub fn split(path: &str) -> (&str, &str)
     ensures { IsSplit path.now result.0.now result.1.now }

@@ -1,4 +1,4 @@
-//! What is done about the bytes that stand unread in a file.
+//! Unread bytes in a file, and what is done about them.
 
 ghost use Rattle.std.specs.Prelude.{◌≡◌, ◌<◌, ◌≤◌, ◌^◌, ◌↔◌, ℕ, Some, None, Ok, IfOk, OnErr, length, bytes_eq};
 ghost use Rattle.iceoryx2_log.specs.declared.entry.Entry as declared;
@@ -15,21 +15,21 @@ use iceoryx2_log::form::{self, EntryError, MAX_BODY_LENGTH, MIN_BODY_LENGTH};
 use sha1::Sha1;
 use std::alloc::{AllocError, Global};
 
-/// What bytes of a file begin with, where more of the file may follow them.
+/// The beginning of bytes of a file, if more of the file may follow them.
 #[derive(Debug, Drop)]
 pub enum Front {
     /// An entry, and how many bytes it has.
     Whole { entry: Entry, count: usize },
-    /// They end within an entry, and more of the file follows.
+    /// The bytes end within an entry, and more of the file follows.
     Unfinished,
-    /// All that is left of the file is what a writer that died has left of its entry: nothing, a part, or an entry
-    /// whose sum is wrong. It is cut off.
+    /// The rest of the file is what a writer that died has left of its entry: nothing, a part, or an
+    /// entry whose sum is wrong. It is cut off.
     Torn,
-    /// They begin with no entry, and are nothing that a writer leaves that died.
+    /// The bytes begin with no entry, and are not the remainder that a writer leaves when it dies.
     Damaged,
 }
 
-/// Whether the bytes are the length of a body, and the same with its bits inverted.
+/// Returns true if the bytes are the length of a body, and the same with its bits inverted.
 fn is_header_of(length: usize, bytes: &[u8]) -> bool
     requires { length < 2 ^ 32 }
     ensures { result ≡ bytes_eq bytes.now (header length) }
@@ -40,7 +40,7 @@ fn is_header_of(length: usize, bytes: &[u8]) -> bool
     bytes == wanted.as_flattened()
 }
 
-/// Whether the bytes are the sum of the body.
+/// Returns true if the bytes are the sum of the body.
 fn is_sum_of(body: &[u8], bytes: &[u8]) -> bool
     requires { length body.now < 2 ^ 32 }
     ensures { result ≡ bytes_eq bytes.now (sum_at body.now) }
@@ -52,7 +52,7 @@ fn is_sum_of(body: &[u8], bytes: &[u8]) -> bool
     bytes == &digest[..form::SUM_LENGTH]
 }
 
-/// Whether the bytes are a header, another sum than that of the body, and the body, all of it.
+/// Returns true if the bytes are a header, another sum than that of the body, and the body, all of it.
 #[tactic(auto, unfolding(crate::specs::Remainder::has_wrong_sum_in))]
 fn has_wrong_sum(bytes: &[u8]) -> bool
     ensures { result ≡ has_wrong_sum_in bytes.now }
@@ -74,8 +74,8 @@ fn has_wrong_sum(bytes: &[u8]) -> bool
     !is_sum_of(body, sum)
 }
 
-/// What the bytes begin with, of which so many are left in the file. An `Err` comes only where they begin with an
-/// entry, and there was no memory for it.
+/// Returns what the bytes begin with, of which so many are left in the file. An `Err` comes only if they
+/// begin with an entry, and there was no memory for it.
 pub fn front_of(alloc: Global, bytes: &[u8], left: u64) -> Result<Front, AllocError>
     // An entry is given where they begin with its form, and only there.
     ensures whole { IfOk result (λ f. (e : declared.Entry) (count : ℕ) → f ≡ front.Whole e count
@@ -97,8 +97,8 @@ pub fn front_of(alloc: Global, bytes: &[u8], left: u64) -> Result<Front, AllocEr
     }
 }
 
-/// What bytes are that were refused for this reason, of which so many are left in the file. An `Err` comes only where
-/// there was no memory.
+/// Returns what the bytes are that were refused for this reason, of which so many are left in the file.
+/// An `Err` comes only if there was no memory.
 fn refused(error: EntryError, bytes: &[u8], left: u64) -> Result<Front, AllocError>
     ensures ok { IfOk result (λ f. refused_in error bytes.now left ≡ Some f) }
     ensures err { OnErr result (refused_in error bytes.now left ≡ None) }
@@ -110,7 +110,7 @@ fn refused(error: EntryError, bytes: &[u8], left: u64) -> Result<Front, AllocErr
     }
 }
 
-/// What bytes that are cut short are, of which so many are left in the file.
+/// Returns what bytes that are cut short are, of which so many are left in the file.
 fn unread(bytes: &[u8], left: u64) -> Front
     ensures { result ≡ unread_in bytes.now left }
 {
@@ -120,7 +120,7 @@ fn unread(bytes: &[u8], left: u64) -> Front
     Front::Torn
 }
 
-/// What bytes that begin with no entry are, of which so many are left in the file.
+/// Returns what bytes that begin with no entry are, of which so many are left in the file.
 fn malformed(bytes: &[u8], left: u64) -> Front
     ensures { result ≡ malformed_in bytes.now left }
 {
@@ -133,7 +133,7 @@ fn malformed(bytes: &[u8], left: u64) -> Front
     Front::Damaged
 }
 
-/// What holds of bytes that are torn.
+/// Laws of bytes that are torn.
 pub fn laws_of_tearing()
     // No whole entry is ever cut off.
     ensures none { NoneTornAway }
@@ -142,11 +142,13 @@ pub fn laws_of_tearing()
     ensures crash { WithOrWithout }
 {}
 
-/// What holds of a log's bytes, from its header's end on, after a crash of the machine at any moment. Until a write is
-/// synchronized a device may leave any bytes in its place, and elsewhere it leaves what was there.
+/// Laws of a log's bytes, from its header's end on, after a crash of the machine at any moment. Until a
+/// write is synchronized, a device may leave any bytes in its place. Elsewhere it leaves the bytes that
+/// were there.
 ///
-/// The laws on appends have a premise: what is left in the place of the entry begins with no other one. It rests on the
-/// test that bytes have to meet, a length, its inversion, and 8 bytes of the SHA-1 over length and body.
+/// The laws on appends have a premise: the bytes that are left in the place of the entry begin with no
+/// other entry. The premise rests on the test that bytes have to meet: a length, its inversion, and 8
+/// bytes of the SHA-1 over length and body.
 pub fn laws_of_crashes()
     // Bytes stand for one list of entries.
     ensures one { OneListEach }

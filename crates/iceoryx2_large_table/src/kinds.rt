@@ -1,4 +1,4 @@
-//! What a table keeps its maps in.
+//! The kinds of maps in which a table keeps its content.
 
 use crate::keys::{Seat, TagKey};
 use finite_map::FiniteMap;
@@ -17,7 +17,7 @@ pub trait Kinds {
     /// Segments by hash.
     type Segments: FiniteMap<ServiceHash, StoredSegment> + Drop;
 
-    /// Phases by participant, nodes before peers, and then by hash. Who is absent is Idle.
+    /// Phases by participant, nodes before peers, and then by hash. An absent participant is Idle.
     type Phases: FiniteMap<Seat, Phase> + Drop;
 
     /// Tags by node and then by hash.
@@ -27,7 +27,7 @@ pub trait Kinds {
     type Tickets: FiniteMap<u64, Ticket> + Drop;
 }
 
-/// Each map is a sorted vector.
+/// A kind in which each map is a sorted vector.
 pub struct Vectors;
 
 impl Kinds for Vectors {
@@ -42,7 +42,7 @@ impl Kinds for Vectors {
     type Tickets = SortedVec<u64, Ticket>;
 }
 
-/// Each map keeps its entries in chunks.
+/// A kind in which each map keeps its entries in chunks.
 pub struct Chunks;
 
 impl Kinds for Chunks {

@@ -1,4 +1,4 @@
-//! What a table lists: one walk over its rows and its segments.
+//! The list of a table: one walk over its rows and its segments.
 
 ghost use Rattle.std.specs.Prelude.{◌≡◌, IfOk};
 ghost use Rattle.std.specs.FinMap as map;
@@ -14,7 +14,7 @@ use iceoryx2_world::listing::Entry;
 use std::alloc::{AllocError, Global};
 use std::cmp::Ordering;
 
-/// The rows and the segments, each hash once, in ascending order.
+/// Returns the rows and the segments, each hash once, in ascending order.
 pub fn merge_entries<
     R: FiniteMap<ServiceHash, StoredRow>,
     S: FiniteMap<ServiceHash, StoredSegment>,

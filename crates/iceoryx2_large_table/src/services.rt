@@ -1,4 +1,4 @@
-//! What stands for the services, in maps of the kinds that are chosen.
+//! The content that a table keeps of the services, in maps of the kinds that are chosen.
 
 ghost use Rattle.std.specs.Prelude.{◌≡◌, None};
 ghost use Rattle.std.specs.FinMap as map;

@@ -1,4 +1,5 @@
-//! What stands for the services, and the steps of one participant at one of them, whatever the maps are.
+//! The content that a table keeps of the services, and the steps of one participant at one of them,
+//! whatever the maps are.
 
 ghost use Rattle.std.specs.Prelude.{◌≡◌, ◌<◌, ◌+◌, None, IfOk, Ok, true, Option};
 ghost use Rattle.std.specs.FinMap as map;
@@ -23,7 +24,7 @@ use iceoryx2_world::listing::Entry;
 use iceoryx2_world::world::{Participant, Phase};
 use std::alloc::{AllocError, Global};
 
-/// Where a participant's phase stands, or would stand, and the phase.
+/// The place of a participant's phase, or where it would be, and the phase.
 #[derive(Clone, Copy)]
 pub struct Position<P: Copy> {
     pub place: P,
@@ -32,43 +33,43 @@ pub struct Position<P: Copy> {
 
 /// The rows, the segments, the phases and the counter.
 ///
-/// Each step answers true where it was allowed and has had its effect, and false where it is forbidden, and then
-/// nothing has changed. `AllocError` comes only where it was allowed and found no memory, and nothing has changed then
-/// either. Each step but a read is written down by a `Recorder`, once, after its tests and what it asks of memory and
-/// before its change. Where the recorder refuses, the step answers as where it is forbidden. A place that was found is
-/// handed on as long as nothing changes.
+/// Each step answers true if it was allowed and has had its effect. It answers false if it is forbidden;
+/// nothing has changed then. `AllocError` comes only if the step was allowed and found no memory, and
+/// nothing has changed then either. A `Recorder` writes down each step but a read, once: after the step's
+/// tests and its requests for memory, and before its change. If the recorder refuses, the step answers as
+/// if it were forbidden. A place that was found is handed on as long as nothing changes.
 pub trait Steps: Sized {
-    /// Where a row stands, or would stand.
+    /// The place of a row, or where the row would be.
     type RowPlace: Copy;
 
-    /// Where a segment stands, or would stand.
+    /// The place of a segment, or where the segment would be.
     type SegmentPlace: Copy;
 
-    /// Where a phase stands, or would stand.
+    /// The place of a phase, or where the phase would be.
     type PhasePlace: Copy;
 
-    /// What stands for the services.
+    /// The content for the services.
     ghost state: { Self → ServicesState };
 
-    /// It is the place of the service's row.
+    /// This is the place of the service's row.
     ghost has_row: { Self → ServiceHash → Self.RowPlace → Type 0 };
 
-    /// It is the place of the service's segment.
+    /// This is the place of the service's segment.
     ghost has_segment: { Self → ServiceHash → Self.SegmentPlace → Type 0 };
 
-    /// It is the place of the participant's phase at the service.
+    /// This is the place of the participant's phase at the service.
     ghost has_phase: { Self → Participant × ServiceHash → Self.PhasePlace → Type 0 };
 
-    /// Nothing yet, with the counter's first value. Takes no memory.
+    /// Returns an empty state with the counter's first value. Takes no memory.
     fn starting_at(alloc: Global, counter: u64) -> Self
         ensures { state result
             ≡ (record { rows = map.empty; segments = map.empty; phases = map.empty; counter = counter }) };
 
-    /// Each hash with a row or a segment, in ascending order.
+    /// Returns each hash with a row or a segment, in ascending order.
     fn list(&self) -> Result<Vec<Entry>, AllocError>
         ensures { IfOk result (λ entries. ListsAll (state self.now).rows (state self.now).segments entries.items) };
 
-    /// The next number.
+    /// Returns the next number.
     fn counter(&self) -> u64
         ensures { result ≡ (state self.now).counter };
 
@@ -78,30 +79,31 @@ pub trait Steps: Sized {
         ensures number { result ≡ (state self.old).counter }
         ensures effect { state self.new ≡ record (state self.old) { counter = (state self.old).counter + 1 } };
 
-    /// Where the row stands, or would stand.
+    /// Returns the place of the row, or where the row would be.
     fn row_place(&self, hash: &ServiceHash) -> Self::RowPlace
         ensures { has_row self.now hash.now result };
 
-    /// The row at its place.
+    /// Returns the row at its place.
     fn row_at(&self, hash: &ServiceHash, place: Self::RowPlace) -> Option<&StoredRow>
         requires { has_row self.now hash.now place }
         ensures { option_copied result ≡ map.get (state self.now).rows hash.now };
 
-    /// Where the segment stands, or would stand.
+    /// Returns the place of the segment, or where the segment would be.
     fn segment_place(&self, hash: &ServiceHash) -> Self::SegmentPlace
         ensures { has_segment self.now hash.now result };
 
-    /// The segment at its place.
+    /// Returns the segment at its place.
     fn segment_at(&self, hash: &ServiceHash, place: Self::SegmentPlace) -> Option<&StoredSegment>
         requires { has_segment self.now hash.now place }
         ensures { option_copied result ≡ map.get (state self.now).segments hash.now };
 
-    /// Where the participant is with the service. Who is not kept is Idle.
+    /// Returns the participant's phase with the service, and its place. A participant that is not kept is
+    /// Idle.
     fn position(&self, participant: Participant, hash: &ServiceHash) -> Position<Self::PhasePlace>
         ensures place { has_phase self.now (participant, hash.now) result.place }
         ensures phase { result.phase ≡ or_idle (map.get (state self.now).phases (participant, hash.now)) };
 
-    /// Reads what is published under the number.
+    /// Reads the description that is published under the number.
     fn read(
         &mut self,
         participant: Participant,
@@ -111,7 +113,7 @@ pub trait Steps: Sized {
         requires { published_number (map.get (state self.old).rows hash.now) ≡ Some number }
         ensures { MayTakeStep (state self.old) participant hash.now act.Read result (state self.new) };
 
-    /// Locks what has no row, whose place was found.
+    /// Locks a service that has no row. The row's place was found.
     fn lock<R: Recorder>(
         &mut self,
         recorder: &mut R,
@@ -144,7 +146,7 @@ pub trait Steps: Sized {
         ensures { RecordsStep R.written R.refused (state self.old) participant hash.now act.RemoveDescription result
             (state self.new) recorder.old recorder.new };
 
-    /// Makes a segment for so many nodes, where the phase and the segment stand or would stand.
+    /// Makes a segment for so many nodes. The places of the phase and of the segment were found.
     fn make<R: Recorder>(
         &mut self,
         recorder: &mut R,
@@ -159,7 +161,7 @@ pub trait Steps: Sized {
         ensures { MayRecordStep R.written R.refused (state self.old) participant hash.now (act.Make max_nodes) result
             (state self.new) recorder.old recorder.new };
 
-    /// Publishes a description that fits the segment, where the phase stands.
+    /// Publishes a description that fits the segment. The phase's place was found.
     fn publish<R: Recorder>(
         &mut self,
         recorder: &mut R,
@@ -174,7 +176,7 @@ pub trait Steps: Sized {
             (act.Publish description.now) result (state self.new) recorder.old recorder.new }
         ensures limits { result ≡ Ok true → IsDescription description.now };
 
-    /// Registers the participant once more, where the phase and the segment stand.
+    /// Registers the participant once more. The places of the phase and of the segment were found.
     fn join<R: Recorder>(
         &mut self,
         recorder: &mut R,
@@ -188,7 +190,7 @@ pub trait Steps: Sized {
         ensures { MayRecordStep R.written R.refused (state self.old) participant hash.now act.Join result
             (state self.new) recorder.old recorder.new };
 
-    /// Leaves once, and tells what is left, or `None` where it is forbidden. Takes no memory.
+    /// Leaves once, and returns what is left, or `None` if it is forbidden. Takes no memory.
     fn leave<R: Recorder>(
         &mut self,
         recorder: &mut R,

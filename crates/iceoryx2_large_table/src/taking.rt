@@ -18,9 +18,9 @@ use iceoryx2_world::batches::Act;
 use iceoryx2_world::world::{Participant, Phase};
 use std::alloc::AllocError;
 
-/// The step that the act says. It answers true where the step was allowed and has had its effect, and false where it is
-/// forbidden. `AllocError` comes only where it was allowed and found no memory. With false and with `AllocError`
-/// nothing has changed.
+/// Takes the step that the act says. Returns true if the step was allowed and has had its effect, and
+/// false if it is forbidden. `AllocError` comes only if the step was allowed and found no memory. With
+/// false and with `AllocError` nothing has changed.
 pub fn take<S: Steps>(
     services: &mut S,
     participant: Participant,
@@ -60,7 +60,7 @@ pub fn take<S: Steps>(
     }
 }
 
-/// Whether there is a segment that the description fits.
+/// Returns true if there is a segment that the description fits.
 pub fn has_segment_for<S: Steps>(
     services: &S,
     hash: &ServiceHash,
@@ -74,7 +74,7 @@ pub fn has_segment_for<S: Steps>(
     }
 }
 
-/// Why the segment at its place isn't opened.
+/// Returns the reason why the segment at its place isn't opened, if there is one.
 pub fn open_refusal<S: Steps>(
     services: &S,
     hash: &ServiceHash,

@@ -1,4 +1,5 @@
-//! What a table keeps of all nodes, the own part of each access of one, and what writes it down.
+//! The content that a table keeps of all nodes, the own part of each access of one, and the recorder that
+//! writes it down.
 
 ghost use Rattle.std.specs.Prelude.{◌≡◌, filter, length};
 ghost use Rattle.std.specs.FinMap as map;
@@ -31,11 +32,12 @@ use std::marker::Model;
 
 /// The services, the tags and the tickets.
 ///
-/// Nine of a node's accesses change what others may have to know, and take a `Recorder`. One that is granted and
-/// changes something asks it once, after all tests and all that it asks of memory, and before the first change,
-/// which can't fail then. One that is refused, finds no memory or changes nothing doesn't ask. Where the recorder
-/// refuses, the access answers its general fault, which each of them names, and nothing has changed. With
-/// `Unrecorded` each is the node's own part alone.
+/// Nine of a node's accesses change facts that others may have to know, and take a `Recorder`. An access
+/// that is granted and changes something asks the recorder once. It asks after all tests and after all
+/// requests for memory, and before the first change, which can't fail then. An access that is refused,
+/// finds no memory or changes nothing doesn't ask. If the recorder refuses, the access answers its
+/// general fault, which each access names, and nothing has changed. With `Unrecorded` each access is the
+/// node's own part alone.
 #[derive(Drop)]
 pub struct WorldOver<M: Kinds> {
     services: Services<M>,
@@ -90,7 +92,8 @@ impl<M: Kinds> WorldOver<M> {
         count_after(taken, skipped)
     }
 
-    /// `Found` where the node's tag is there, else `Made`. `OutOfMemory`, and `Fault` where the recorder refuses.
+    /// Makes the node's tag. Returns `Found` if the tag is there already, else `Made`. `OutOfMemory`, and
+    /// `Fault` if the recorder refuses.
     pub fn make_tag<R: Recorder>(
         &mut self,
         recorder: &mut R,
@@ -115,7 +118,7 @@ impl<M: Kinds> WorldOver<M> {
         Ok(Tag::Made)
     }
 
-    /// The node's tag isn't there any more. `Other` where the recorder refuses.
+    /// Removes the node's tag. `Other` if the recorder refuses.
     pub fn remove_tag<R: Recorder>(
         &mut self,
         recorder: &mut R,
@@ -137,9 +140,9 @@ impl<M: Kinds> WorldOver<M> {
         Ok(())
     }
 
-    /// The node holds the service's lock, whose number is the counter before. `Creation` while another holds it,
-    /// `AlreadyExists` where it is published, `OutOfMemory`, and `Other` where no number is left, where the node holds
-    /// something there, and where the recorder refuses.
+    /// Gives the node the service's lock, and returns its number: the counter before. `Creation` while
+    /// another node holds the lock, `AlreadyExists` if the service is published, and `OutOfMemory`.
+    /// `Other` if no number is left, if the node holds something there, or if the recorder refuses.
     pub fn lock<R: Recorder>(
         &mut self,
         recorder: &mut R,
@@ -167,8 +170,9 @@ impl<M: Kinds> WorldOver<M> {
         Ok(number)
     }
 
-    /// There is a segment for so many nodes, and the node is in it. `AlreadyExists`, `OutOfMemory`, and `Other`
-    /// where the node doesn't hold the lock of that number, for no nodes, and where the recorder refuses.
+    /// Makes a segment for so many nodes, and puts the node into it. `AlreadyExists`, and `OutOfMemory`.
+    /// `Other` if the node doesn't hold the lock of that number, for no nodes, or if the recorder
+    /// refuses.
     pub fn make_segment<R: Recorder>(
         &mut self,
         recorder: &mut R,
@@ -206,7 +210,7 @@ impl<M: Kinds> WorldOver<M> {
         Ok(())
     }
 
-    /// The segment isn't there any more. `Other` where the node may not take it away, and where the recorder refuses.
+    /// Removes the segment. `Other` if the node may not remove it, or if the recorder refuses.
     pub fn remove_segment<R: Recorder>(
         &mut self,
         recorder: &mut R,
@@ -223,7 +227,7 @@ impl<M: Kinds> WorldOver<M> {
         Err(RemoveError::Other)
     }
 
-    /// Nothing is written under the hash any more. `Other` where the node may not take it away, and where the recorder
+    /// Removes what is written under the hash. `Other` if the node may not remove it, or if the recorder
     /// refuses.
     pub fn remove_description<R: Recorder>(
         &mut self,
@@ -244,9 +248,9 @@ impl<M: Kinds> WorldOver<M> {
         Err(RemoveError::Other)
     }
 
-    /// The description is published under the number, which is the ticket of the node, registered then.
-    /// `OutOfMemory`, and `Other` where the node hasn't made a segment of that number which the description fits,
-    /// and where the recorder refuses.
+    /// Publishes the description under the number, which becomes the ticket of the node: the node is
+    /// registered then. `OutOfMemory`. `Other` if the node hasn't made a segment of that number that the
+    /// description fits, or if the recorder refuses.
     pub fn publish<R: Recorder>(
         &mut self,
         recorder: &mut R,
@@ -285,10 +289,10 @@ impl<M: Kinds> WorldOver<M> {
         Ok(ticket)
     }
 
-    /// The node is registered in the segment of that number, and has a ticket, which is the counter before.
-    /// `DoesNotExist`, `Marked` where all have left, `Full`, `OutOfNumbers`, `OutOfMemory`, and `Failed` where the
-    /// segment or what the node has read has another number, where the node can't join, and where the recorder
-    /// refuses.
+    /// Registers the node in the segment of that number, and returns its ticket: the counter before.
+    /// `DoesNotExist`, `Marked` if all have left, `Full`, `OutOfNumbers`, and `OutOfMemory`. `Failed` if
+    /// the segment has another number, or the description that the node has read, if the node can't join,
+    /// or if the recorder refuses.
     pub fn open_segment<R: Recorder>(
         &mut self,
         recorder: &mut R,
@@ -325,9 +329,9 @@ impl<M: Kinds> WorldOver<M> {
         Ok(ticket)
     }
 
-    /// The ticket isn't there any more: `StillCounted` where the node has others, `Left`, and `Last` where nobody
-    /// stays, whose segment is marked then, with the same entry. `NoSuchTicket` where the node has no such ticket
-    /// for the service and number, and where the recorder refuses.
+    /// Releases the ticket. Returns `StillCounted` if the node has others, else `Left`, or `Last` if
+    /// nobody stays; the segment is then marked by the same entry. `NoSuchTicket` if the node has no such
+    /// ticket for the service and number, or if the recorder refuses.
     pub fn release<R: Recorder>(
         &mut self,
         recorder: &mut R,

@@ -8,19 +8,19 @@ ghost use Rattle.iceoryx2_log.specs.Log.{Accepts, Appends, Compacts, Grows, Rejo
 use crate::entry::Entry;
 use crate::log::{Log, LogError};
 
-/// A log that is held over all accesses of a call. Others wait meanwhile, so a call finds the log busy before its first
-/// access or not at all.
+/// A log that can be held over all accesses of a call. Other handles wait meanwhile, so a call finds the
+/// log busy before its first access or not at all.
 pub trait SpansCalls: Log {
-    /// Whether a call has begun for which it may be held.
+    /// True if a call has begun for which the log may be held.
     ghost in_call: { Self → Bool };
 
-    /// A call begins. The first of its holds takes the log, which stays held up to `end_call`, but for pauses. Where
-    /// that hold is refused, all others of the call are.
+    /// Begins a call. The first hold of the call takes the log. The log then stays held until `end_call`,
+    /// except for pauses. If that first hold is refused, all other holds of the call are refused.
     fn begin_call(&mut self)
         ensures same { Self.contents self.new ≡ Self.contents self.old }
         ensures held { Self.held self.new ≡ Self.held self.old };
 
-    /// The call ends, and the log is let go of.
+    /// Ends the call, and lets go of the log.
     fn end_call(&mut self)
         ensures same { Self.contents self.new ≡ Self.contents self.old }
         ensures free { Self.held self.new ≡ false }
@@ -38,12 +38,13 @@ pub enum Span {
     Held,
     /// A pause has let go of the log. The next hold takes it again.
     Paused,
-    /// The log wasn't to be had for the first access, for this reason, and isn't for another one of the call.
+    /// The first access of the call could not hold the log, for this reason. No other access of the call
+    /// can hold it.
     Refused(LogError),
 }
 
-/// A log, with the call that has begun. Each access asks it to hold and to let go as any log. Within a call the log
-/// inside is held once.
+/// A log with the call that has begun. Each access asks it to hold and to let go, as it asks any log.
+/// Within a call the log inside is held only once.
 #[derive(Drop)]
 pub struct CallLog<L> {
     log: L,
@@ -52,7 +53,7 @@ pub struct CallLog<L> {
 }
 
 impl<L> CallLog<L> {
-    /// A log that isn't held, of which no call has begun.
+    /// Returns a log that isn't held. No call of it has begun.
     pub fn new(log: L) -> CallLog<L>
         ensures { result ≡ record { log = log; span = span.None; is_held = false } }
     {
@@ -63,7 +64,7 @@ impl<L> CallLog<L> {
         }
     }
 
-    /// The log inside.
+    /// Returns the log inside.
     pub fn log(&self) -> &L
         ensures { result.now ≡ self.now.log }
     {
@@ -110,7 +111,8 @@ impl<L: Log> Log for CallLog<L> {
 
     ghost shown = { λ s. L.shown s.log };
 
-    /// Within a call that has the log it is always granted. `Failed` where an access holds it already.
+    /// Within a call that has the log, a hold is always granted. `Failed` if an access holds the log
+    /// already.
     fn hold(&mut self) -> Result<(), LogError>
         ensures ok { OnOk result (WhereKnown Grows (L.contents self.old.log) (L.contents self.new.log)) }
         ensures err { OnErr result (L.contents self.new.log ≡ L.contents self.old.log) }
@@ -128,8 +130,8 @@ impl<L: Log> Log for CallLog<L> {
         Ok(())
     }
 
-    /// Within a call that has the log nothing is left to measure. Where the call was refused the log, this is too.
-    /// `Failed` where an access holds it.
+    /// Within a call that has the log, nothing is left to measure. If the call was refused the log, the
+    /// look is refused too. `Failed` if an access holds the log.
     fn look(&mut self) -> Result<(), LogError>
         ensures ok { OnOk result (WhereKnown Grows (L.contents self.old.log) (L.contents self.new.log)) }
         ensures err { OnErr result (L.contents self.new.log ≡ L.contents self.old.log) }
@@ -169,7 +171,7 @@ impl<L: Log> Log for CallLog<L> {
         self.log.accept()
     }
 
-    /// `Failed` where no access holds the log, also within a call that has it.
+    /// `Failed` if no access holds the log, even within a call that has the log.
     fn append(&mut self, entry: &Entry) -> Result<(), LogError>
         ensures ok { OnOk result (WhereKnown (Appends entry.now) (L.contents self.old.log) (L.contents self.new.log)) }
         ensures err { OnErr result (L.contents self.new.log ≡ L.contents self.old.log) }
@@ -195,7 +197,7 @@ impl<L: Log> Log for CallLog<L> {
         self.is_held = false;
     }
 
-    /// Lets go of the log inside, also within a call.
+    /// Lets go of the log inside, even within a call.
     fn pause(&mut self, number: u64) -> bool
         ensures contents { L.contents self.new.log ≡ L.contents self.old.log }
         ensures held { self.new.is_held ≡ (if result then false else self.old.is_held) }
@@ -252,7 +254,7 @@ impl<L: Log> Log for CallLog<L> {
 impl<L: Log> SpansCalls for CallLog<L> {
     ghost in_call = { λ l. has_call l.span };
 
-    /// Nothing is asked of the log inside yet.
+    /// Asks nothing of the log inside yet.
     fn begin_call(&mut self)
         ensures begun { self.new ≡ record self.old { span = begun_in self.old.span } }
         ensures keeps { IsSpanned L.held self.old → IsSpanned L.held self.new }

@@ -74,7 +74,7 @@ impl Clone for FormBytes {
     }
 }
 
-/// What a node did to a service: a granted access that others have to know.
+/// A node's operation on a service: a granted access that other nodes have to know.
 #[derive(Debug, PartialEq, Eq)]
 pub enum Operation {
     MakeTag,
@@ -87,9 +87,9 @@ pub enum Operation {
     Publish { number: u64, bytes: FormBytes },
     OpenSegment { number: u64, ticket: u64 },
     Release { ticket: u64, number: u64 },
-    /// The counter goes on at this number: the node has locked each one before it, and given it up.
+    /// The counter goes on at this number: the node locked each number before it, and gave it up.
     Spend { number: u64 },
-    /// Nobody's operation, and of no service: the log goes on in another place.
+    /// An operation of no node and no service: the log goes on in another place.
     Moved,
 }
 
@@ -158,7 +158,7 @@ impl Clone for Operation {
     }
 }
 
-/// An access that had an effect: whose it was, on which service, and what it did.
+/// An access that had an effect: its node, its service and its operation.
 #[derive(Debug, PartialEq, Eq)]
 pub struct Entry {
     pub node: u64,

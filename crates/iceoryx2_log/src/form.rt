@@ -15,10 +15,10 @@ pub use self::writing::{EncodeError, encode};
 use crate::entry::Entry;
 use std::alloc::Global;
 
-/// How many bytes the length has together with the same inverted.
+/// The number of bytes of the length, together with the same inverted.
 pub const HEADER_LENGTH: usize = 8;
 
-/// How many bytes of the SHA-1 of length and body stand before the body.
+/// The number of bytes of the SHA-1 of length and body that come before the body.
 pub const SUM_LENGTH: usize = 8;
 
 /// The length of the shortest body, in bytes: a kind, a node and a hash.
@@ -35,9 +35,10 @@ pub fn lengths()
     ensures max_body { MAX_BODY_LENGTH ≡ 1048576 }
 {}
 
-/// The entry whose byte form is in front of the bytes, and how many bytes it has; anything may stand behind it.
-/// `CutShort` where the bytes end before an entry does, which is tested first; `Malformed` where they begin with
-/// no entry; and `OutOfMemory` where they do, and a description's bytes found no memory.
+/// Returns the entry whose byte form begins the bytes, and the number of bytes of that form. Any bytes
+/// may follow the form. `CutShort` if the bytes end before an entry does; this is tested first.
+/// `Malformed` if the bytes begin with no entry. `OutOfMemory` if they begin with an entry, and there was
+/// no memory for a description's bytes.
 pub fn decode(alloc: Global, bytes: &[u8]) -> Result<(Entry, usize), EntryError>
     // The bytes begin with the form of what is found,
     ensures found { IfOk result (λ found. Begins bytes.now found.0 found.1) }

@@ -13,7 +13,7 @@ use crate::log::{Log, LogError};
 use std::alloc::{AllocError, Global};
 use std::marker::Model;
 
-/// Entries that others append, one after the other.
+/// Entries that other handles append, one after the other.
 #[derive(Debug)]
 pub struct Batch {
     entries: Vec<Entry>,
@@ -65,9 +65,10 @@ fn has(numbers: &[u64], number: u64) -> bool
     numbers.iter().any(|k| number == *k)
 }
 
-/// A handle of a log in memory. What others append is handed in as batches: before each hold that is granted the next
-/// one comes. Holds and appends are counted from 1, refused ones too; one past `u64::MAX` counts as the `u64::MAX`-th.
-/// Holds of chosen numbers find the log busy, and appends of chosen numbers are refused. A look counts as a hold.
+/// A handle of a log in memory. A test hands in the entries of other handles as batches. The next batch
+/// comes before each hold that is granted. Holds and appends are counted from 1, refused ones too; each
+/// one past `u64::MAX` counts as the `u64::MAX`-th. Holds of chosen numbers find the log busy, and
+/// appends of chosen numbers are refused. A look counts as a hold.
 pub struct MemoryLog {
     // all that stands, and how much of it this handle has taken
     entries: Vec<Entry>,
@@ -134,8 +135,8 @@ impl Model for MemoryLog {
 }
 
 impl MemoryLog {
-    /// A handle of a log in which these entries stand, of which it has taken so many. Nothing is refused, and no wait
-    /// has a pause.
+    /// Returns a handle of a log with these entries, of which the handle has taken over so many. The
+    /// handle refuses nothing, and no wait has a pause.
     pub fn from_entries(alloc: Global, entries: Vec<Entry>, taken: usize) -> MemoryLog
         requires { taken ≤ length entries.items }
         ensures { result ≡ record {
@@ -169,7 +170,7 @@ impl MemoryLog {
         }
     }
 
-    /// All that stands, for another handle.
+    /// Returns all entries of the log, for another handle.
     pub fn into_entries(self) -> Vec<Entry>
         ensures { result.items ≡ self.contents.taken ++ self.contents.unread }
     {
@@ -191,7 +192,7 @@ impl MemoryLog {
         entries
     }
 
-    /// Lets a batch come after those that wait. An `Err` changes nothing.
+    /// Adds a batch behind those that wait. An `Err` changes nothing.
     pub fn schedule(&mut self, batch: Batch) -> Result<(), AllocError>
         ensures ok { OnOk result (self.new ≡ record self.old { batches = self.old.batches ++ batch ∷ [] }) }
         ensures err { OnErr result (self.new ≡ self.old) }
@@ -200,56 +201,56 @@ impl MemoryLog {
         Ok(())
     }
 
-    /// From now on the holds of these numbers find the log busy, and no others.
+    /// Lets the holds of these numbers, and no others, find the log busy from now on.
     pub fn set_busy(&mut self, busy: Vec<u64>)
         ensures { self.new ≡ record self.old { busy = busy.items } }
     {
         self.busy = busy;
     }
 
-    /// From now on the appends of these numbers are refused, and no others.
+    /// Refuses the appends of these numbers, and no others, from now on.
     pub fn set_refused(&mut self, refused: Vec<u64>)
         ensures { self.new ≡ record self.old { refused = refused.items } }
     {
         self.refused = refused;
     }
 
-    /// From now on each wait has so many pauses. None takes any time.
+    /// Gives each wait so many pauses from now on. None takes any time.
     pub fn set_pauses(&mut self, pauses: u64)
         ensures { self.new ≡ record self.old { pauses = pauses } }
     {
         self.pauses = pauses;
     }
 
-    /// All that stands, in order.
+    /// Returns all entries of the log, in order.
     pub fn entries(&self) -> &[Entry]
         ensures { result.now ≡ self.now.contents.taken ++ self.now.contents.unread }
     {
         &self.entries
     }
 
-    /// How many of the entries this handle has taken over or appended.
+    /// Returns the number of entries that this handle has taken over or appended.
     pub fn taken(&self) -> usize
         ensures { result ≡ length self.now.contents.taken }
     {
         self.taken
     }
 
-    /// What this handle has appended, in order.
+    /// Returns the entries that this handle has appended, in order.
     pub fn appended(&self) -> &[Entry]
         ensures { result.now ≡ self.now.appended }
     {
         &self.appended
     }
 
-    /// How many batches wait.
+    /// Returns the number of batches that wait.
     pub fn pending(&self) -> usize
         ensures { result ≡ length self.now.batches }
     {
         self.batches.len() - self.came
     }
 
-    /// Lets the next batch come, where one waits. An `Err` changes nothing.
+    /// Lets the next batch come, if one waits. An `Err` changes nothing.
     fn take_batch(&mut self) -> Result<(), LogError>
         ensures ok { OnOk result (self.new ≡ with_batch self.old self.old.batches) }
         ensures err { OnErr result (self.new ≡ self.old) }
@@ -263,7 +264,7 @@ impl MemoryLog {
         Ok(())
     }
 
-    /// Whether this handle has taken all.
+    /// Returns true if this handle has taken over all entries.
     #[tactic(auto, using(crate::proofs::Unread::some_unread, crate::proofs::Unread::all_read))]
     fn is_read(&self) -> bool
         ensures { result ≡ none_unread self.now.contents.unread }
@@ -274,7 +275,7 @@ impl MemoryLog {
         true
     }
 
-    /// Whether the append of this number goes through.
+    /// Returns true if the append of this number goes through.
     fn may_append(&self) -> bool
         ensures { result ≡ (self.now.held && none_unread self.now.contents.unread
             && not (is_listed self.now.appends self.now.refused)) }
@@ -295,7 +296,7 @@ impl Log for MemoryLog {
 
     ghost shown = { λ s. s.shown };
 
-    /// The next batch comes. `Failed` where the log is held already, which is tested first.
+    /// Lets the next batch come. `Failed` if the log is held already; this is tested first.
     fn hold(&mut self) -> Result<(), LogError>
         ensures { Holds self.old result self.new }
     {

@@ -1,4 +1,4 @@
-//! Why a node isn't claimed, or not looked at.
+//! The reason why a node isn't claimed, or not looked at.
 
 ghost use Rattle.std.specs.Prelude.{◌≡◌, ◌⊎◌, [], string_bytes};
 ghost use Rattle.iceoryx2_file_log.specs.Errors.{IsOfFile};
@@ -10,20 +10,22 @@ use std::alloc::Global;
 use std::error::Error;
 use std::fmt;
 
-/// Why a node isn't claimed, or not looked at.
+/// The reason why a node isn't claimed, or not looked at.
 #[derive(Clone, Copy, Debug, PartialEq, Eq)]
 pub enum MonitoringFault {
-    /// Another claim of the node stands, of this process or another. Comes only of a claim.
+    /// Another claim of the node stands, of this process or another. Comes only from a claim.
     NodeIsAlive { node: u64 },
-    /// None of the numbers from 0 to 65,535 is free. Comes only where a free one is asked for.
+    /// None of the numbers from 0 to 65,535 is free. Comes only if a free one is asked for.
     NoFreeNode,
     /// The file of the node, or the folder of the log, refused:
     ///
-    /// - `IsALink`, `IsAFolder`, `NotAFile`: what has the path of the node's file is no file.
+    /// - `IsALink`, `IsAFolder`, `NotAFile`: the path of the node's file belongs to something that is no
+    ///   file.
     /// - `NoPermission`: the system doesn't permit to open or make the file, or to read the folder.
-    /// - `DiskFull`: the file can't be made for want of room.
+    /// - `DiskFull`: there is no room to make the file.
     /// - `OutOfMemory`: there was no memory.
-    /// - `Failed { kind }`: the system refused for another reason, as where there is no such folder.
+    /// - `Failed { kind }`: the system refused for another reason, for example because there is no such
+    ///   folder.
     File(FileFault),
 }
 
@@ -42,7 +44,7 @@ impl fmt::Display for MonitoringFault {
     }
 }
 
-/// Why a node isn't claimed, or not looked at, with the path that it is about.
+/// The reason why a node isn't claimed, or not looked at, with the path that it is about.
 #[derive(Debug, PartialEq, Eq)]
 pub struct MonitoringError {
     path: String,
@@ -64,7 +66,7 @@ impl MonitoringError {
         MonitoringError { path, fault }
     }
 
-    /// The path of the node's file, or of the log. It is empty where there was no memory for it.
+    /// Returns the path of the node's file, or of the log. It is empty if there was no memory for it.
     pub fn path(&self) -> &str
         ensures { result.now ≡ string_bytes self.now.path }
     {
@@ -91,7 +93,7 @@ impl fmt::Display for MonitoringError {
 
 impl Error for MonitoringError {}
 
-/// Why the node isn't claimed whose file isn't locked for this reason.
+/// Returns the reason why the node isn't claimed, if its file isn't locked for this reason.
 pub(crate) fn refusal(node: u64, fault: FileFault) -> MonitoringFault
     requires { (fault ≡ file.Busy) ⊎ IsOfFile fault }
     ensures is { result ≡ refusal_of node fault }
@@ -103,7 +105,7 @@ pub(crate) fn refusal(node: u64, fault: FileFault) -> MonitoringFault
     }
 }
 
-/// What is answered where there was no memory for the path of a file.
+/// Returns the error for want of memory for the path of a file.
 pub(crate) fn no_memory(alloc: Global) -> MonitoringError
     ensures path { string_bytes result.path ≡ [] }
     ensures fault { result.fault ≡ MonitoringFault.File file.OutOfMemory }
@@ -114,7 +116,8 @@ pub(crate) fn no_memory(alloc: Global) -> MonitoringError
     )
 }
 
-/// Whether what has the path of a node's file is no file, so that the node can't be claimed.
+/// Returns true if the path of a node's file belongs to something that is no file, so that the node can't
+/// be claimed.
 pub(crate) fn is_of_no_file(fault: MonitoringFault) -> bool
     ensures { result ≡ of_no_file fault }
 {

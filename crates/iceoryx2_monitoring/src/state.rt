@@ -1,4 +1,4 @@
-//! Whether a node is alive.
+//! The state of a node: alive or not.
 
 ghost use Rattle.std.specs.Prelude.{◌≡◌, IfOk, IfErr};
 ghost use Rattle.iceoryx2_file_log.specs.Errors.{IsOfFile};
@@ -16,25 +16,25 @@ use std::fs::{self, DirEntry, File, TryLockError};
 use std::io::{self, ErrorKind};
 use std::rt::Files;
 
-/// Whether a node is alive.
+/// The state of a node: alive or not.
 #[derive(Clone, Copy, Debug, PartialEq, Eq)]
 pub enum NodeState {
     /// A token of the node stands, of this process or another.
     Alive,
-    /// The node was claimed, and the process is gone that held its token, or let it go.
+    /// The node was claimed, and the process that held its token is gone, or let the token go.
     Dead,
     /// The node was never claimed: there is no file of it.
     DoesNotExist,
 }
 
-/// A node that was claimed at some time, and whether it is alive.
+/// A node that was claimed at some time, with its state.
 #[derive(Clone, Copy, Debug, PartialEq, Eq)]
 pub struct NodeStatus {
     pub node: u64,
     pub state: NodeState,
 }
 
-/// What the answer to a try of the lock tells of the node.
+/// Returns the node's state by the answer to a try of the lock.
 fn state_by(answer: Result<(), TryLockError>) -> Result<NodeState, FileFault>
     ensures state { result ≡ state_of answer }
     ensures file { IfErr result IsOfFile }
@@ -46,7 +46,8 @@ fn state_by(answer: Result<(), TryLockError>) -> Result<NodeState, FileFault>
     }
 }
 
-/// Whether the node is alive whose file this is. A look takes a lock that looks share, and lets it go at once.
+/// Returns the state of the node whose file this is. A look takes a lock that looks share, and lets it go
+/// at once.
 fn look(rt: &impl Files<File = File>, path: &str) -> Result<NodeState, FileFault>
     ensures { IfErr result IsOfFile }
 {
@@ -56,13 +57,15 @@ fn look(rt: &impl Files<File = File>, path: &str) -> Result<NodeState, FileFault
     }
 }
 
-/// Whether a node is alive, of the processes that share the log of this path. Nothing is made, and a token of this
-/// very process counts as any other.
+/// Returns the state of a node, of the processes that share the log of this path. Nothing is made, and a
+/// token of this very process counts like any other.
 ///
-/// - `File(IsALink)`, `File(IsAFolder)`, `File(NotAFile)`: what has the path of the node's file is no file.
+/// - `File(IsALink)`, `File(IsAFolder)`, `File(NotAFile)`: the path of the node's file belongs to
+///   something that is no file.
 /// - `File(NoPermission)`: the system doesn't permit to open the file.
 /// - `File(OutOfMemory)`: there was no memory.
-/// - `File(Failed { kind })`: the system refused for another reason, as a lock on a file system that has none.
+/// - `File(Failed { kind })`: the system refused for another reason, for example because the file
+///   system has no locks.
 pub fn state<R: Files<File = File> + AllocGlobal>(
     rt: &R,
     log_path: &str,
@@ -79,7 +82,7 @@ pub fn state<R: Files<File = File> + AllocGlobal>(
     }
 }
 
-/// Where a status of this node would go, or where one is.
+/// Returns the place where a status of this node would go, or where one is.
 fn place_of(found: &[NodeStatus], node: u64) -> Result<usize, usize>
     requires { IsRising found.now }
     ensures { IfErr result (IsPlaceOf node found.now) }
@@ -102,7 +105,7 @@ fn add(found: &mut Vec<NodeStatus>, status: NodeStatus) -> Result<(), AllocError
     }
 }
 
-/// Adds the node's status, where it has a file.
+/// Adds the node's status, if the node has a file.
 fn add_node<R: Files<File = File> + AllocGlobal>(
     rt: &R,
     log_path: &str,
@@ -128,7 +131,7 @@ fn add_node<R: Files<File = File> + AllocGlobal>(
     }
 }
 
-/// The refusal of the log's folder.
+/// Returns the refusal of the log's folder.
 fn folder_error(alloc: Global, folder: &str, error: &io::Error) -> MonitoringError
     ensures { IsLookError folder.now result }
 {
@@ -165,15 +168,16 @@ fn add_entry<R: Files<File = File> + AllocGlobal>(
     }
 }
 
-/// Each node that has a file beside the log of this path, by rising number, and whether it is alive. A link or a folder
-/// that has the name of a node's file is passed over. A node that is claimed for the first time meanwhile may be
-/// missing.
+/// Returns each node that has a file beside the log of this path, by rising number, with its state. A
+/// link or a folder that has the name of a node's file is passed over. A node that is claimed for the
+/// first time meanwhile may be missing.
 ///
 /// An error has the path of the node's file that refused, or of the log's folder:
 ///
 /// - `File(NoPermission)`: the system doesn't permit to read the folder, or to open a node's file.
 /// - `File(OutOfMemory)`: there was no memory.
-/// - `File(Failed { kind })`: the system refused for another reason, as where there is no such folder.
+/// - `File(Failed { kind })`: the system refused for another reason, for example because there is no such
+///   folder.
 pub fn list<R: Files<File = File> + AllocGlobal>(
     rt: &R,
     log_path: &str,

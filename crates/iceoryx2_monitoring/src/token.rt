@@ -20,18 +20,20 @@ use std::random::RandomSource;
 use std::rt::Files;
 use std::time::{Clock, Duration};
 
-/// For how many milliseconds `claim` tries while another has the lock, who may only be looking.
+/// For how many milliseconds `claim` tries while another process, which may only be looking, has the
+/// lock.
 const PATIENCE_MILLIS: u64 = 50;
 
-/// The highest number that is given to who asks for a free one.
+/// The highest number that is given to anyone who asks for a free one.
 pub const HIGHEST_FREE_NODE: u64 = 65_535;
 
-/// The claim of a node: nobody else has one of the same node as long as it stands. It is given back where it is
-/// dropped, and by the system however the process ends. So who is a node keeps it, bound to a name, as long as its
-/// process acts as that node; `let _ = claim(..)` gives it back at once.
+/// The claim of a node: as long as it stands, nobody else has one of the same node. The claim is given
+/// back when the token is dropped, and by the system however the process ends. So a process keeps the
+/// token, bound to a name, as long as it acts as that node. `let _ = claim(..)` gives the claim back at
+/// once.
 ///
-/// The node's file stays for ever: were it removed, one process could hold the lock of the file that is gone, and
-/// another that of a new one.
+/// The node's file stays for ever. If it were removed, one process could hold the lock of the file that
+/// is gone, and another process that of a new one.
 #[derive(Drop)]
 pub struct Token {
     // Its lock is the claim, and goes with it.
@@ -40,7 +42,7 @@ pub struct Token {
 }
 
 impl Token {
-    /// The node's number.
+    /// Returns the node's number.
     pub fn node(&self) -> u64
         ensures { result ≡ self.now.node }
     {
@@ -48,7 +50,8 @@ impl Token {
     }
 }
 
-/// The file of this path, which is made where nothing has it, with its lock. `Busy` where another has the lock.
+/// Returns the file of this path with its lock, and makes the file if nothing has the path. `Busy` if
+/// another has the lock.
 fn locked<R: Files<File = File> + Clock + RandomSource + AllocGlobal>(
     rt: &R,
     path: &str,
@@ -62,17 +65,19 @@ fn locked<R: Files<File = File> + Clock + RandomSource + AllocGlobal>(
     Ok(file)
 }
 
-/// Claims a node for this process, among those that share the log of this path. The node's file is made where there is
-/// none, for this user or its group as `sharing` says, and stays for ever.
+/// Claims a node for this process, among those that share the log of this path. If the node has no file,
+/// the call makes one, for this user or its group as `sharing` says. The file stays for ever.
 ///
-/// - `NodeIsAlive`: another claim of it stood for 50 milliseconds, of this process or another. It comes too where a
-///   look at the node takes as long, since who looks was stopped, and where another cleans up for it so long.
-/// - `File(IsALink)`, `File(IsAFolder)`, `File(NotAFile)`: what has the path of the node's file is no file.
+/// - `NodeIsAlive`: another claim of the node stood for 50 milliseconds, of this process or another. It
+///   also comes if a look at the node takes as long, because the looking process was stopped, or if
+///   another process cleans up for the node for as long.
+/// - `File(IsALink)`, `File(IsAFolder)`, `File(NotAFile)`: the path of the node's file belongs to
+///   something that is no file.
 /// - `File(NoPermission)`: the system doesn't permit to open the file, or to make it.
-/// - `File(DiskFull)`: there is no room to make it.
+/// - `File(DiskFull)`: there is no room to make the file.
 /// - `File(OutOfMemory)`: there was no memory.
-/// - `File(Failed { kind })`: the system refused for another reason, as where there is no such folder, or no lock on
-///   its file system.
+/// - `File(Failed { kind })`: the system refused for another reason, for example because there is no such
+///   folder, or no lock on its file system.
 pub fn claim<R: Files<File = File> + Clock + RandomSource + AllocGlobal>(
     rt: &R,
     log_path: &str,
@@ -86,8 +91,8 @@ pub fn claim<R: Files<File = File> + Clock + RandomSource + AllocGlobal>(
     claim_within(rt, log_path, node, sharing, patience)
 }
 
-/// The same, which tries so long while another has the node's file. So the node of a process that was killed is had as
-/// soon as whoever cleans up for it is done.
+/// Claims a node as `claim` does, but tries for this long while another process has the node's file. So
+/// the node of a process that was killed is claimed as soon as any process that cleans up for it is done.
 pub fn claim_within<R: Files<File = File> + Clock + RandomSource + AllocGlobal>(
     rt: &R,
     log_path: &str,
@@ -107,7 +112,8 @@ pub fn claim_within<R: Files<File = File> + Clock + RandomSource + AllocGlobal>(
     }
 }
 
-/// The claim of the node, or `None` where it is alive, or what has the path of its file is no file.
+/// Returns the claim of the node. `None` if the node is alive, or if the path of its file belongs to
+/// something that is no file.
 fn claim_if_free<R: Files<File = File> + Clock + RandomSource + AllocGlobal>(
     rt: &R,
     log_path: &str,
@@ -136,7 +142,7 @@ fn claim_if_free<R: Files<File = File> + Clock + RandomSource + AllocGlobal>(
     }
 }
 
-/// What is answered where no node is free.
+/// Returns the error for the case that no node is free.
 fn no_free_node(alloc: Global, log_path: &str) -> MonitoringError
     ensures { IsFreeClaimError log_path.now result }
 {
@@ -146,11 +152,11 @@ fn no_free_node(alloc: Global, log_path: &str) -> MonitoringError
     }
 }
 
-/// Claims the lowest node from 0 to 65,535 that isn't alive. A number whose file's path belongs to a link or a folder
-/// is passed over.
+/// Claims the lowest node from 0 to 65,535 that isn't alive. A number whose file's path belongs to a link
+/// or a folder is passed over.
 ///
-/// `NoFreeNode` has the log's path, and comes where none of these is left. Each other error has the path of a node's
-/// file, and is one of `claim`'s.
+/// `NoFreeNode` has the log's path, and comes if none of these is left. Each other error has the path of
+/// a node's file, and is one of `claim`'s.
 pub fn claim_free<R: Files<File = File> + Clock + RandomSource + AllocGlobal>(
     rt: &R,
     log_path: &str,

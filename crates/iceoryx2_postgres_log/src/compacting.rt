@@ -1,7 +1,7 @@
 //! A compaction: the log goes on in its next generation, which begins with a snapshot.
 //!
-//! All of it is one transaction of the session that holds the log. Until the server tells that the generation is the
-//! current one, nobody else sees anything of it.
+//! The whole compaction is one transaction of the session that holds the log. Until the server tells that
+//! the generation is the current one, nobody else sees anything of it.
 
 ghost use Rattle.std.specs.Prelude.{◌≡◌, ◌≢◌, ◌⊎◌, true, Err, IfOk, IfErr, OnOk, OnErr, IsTrue, All, codes, length};
 ghost use Rattle.std.specs.Io.KnownBytes.{Appends};
@@ -30,7 +30,7 @@ use std::io::{BufRead, Write};
 
 // ---- the mark
 
-/// The mark, of nobody and of no service.
+/// Returns the mark, which is of no node and of no service.
 fn mark() -> Entry
     ensures node { result.node ≡ 0 }
     ensures hash { All (λ b. b ≡ 0) result.hash.0 }
@@ -43,7 +43,7 @@ fn mark() -> Entry
     }
 }
 
-/// The byte form of the mark.
+/// Returns the byte form of the mark.
 fn mark_form(alloc: Global) -> Result<Vec<u8>, PostgresFault>
     ensures { IfOk result (λ form. IsMark form.items) }
 {
@@ -54,8 +54,8 @@ fn mark_form(alloc: Global) -> Result<Vec<u8>, PostgresFault>
     }
 }
 
-/// The place before the first entry of the next generation, where the rows tell the mark's, of this number, and that
-/// one with the same sum.
+/// Returns the place before the first entry of the next generation, if the rows tell two places: the
+/// mark's, of this number, and that one with the same sum.
 fn start_place(alloc: Global, number: u64, rows: &[Line]) -> Result<Line, PostgresFault>
     ensures { IfOk result (TellsMove number rows.now) }
 {
@@ -82,7 +82,7 @@ fn start_place(alloc: Global, number: u64, rows: &[Line]) -> Result<Line, Postgr
     Ok(place)
 }
 
-/// The same, where the reply tells that it is done.
+/// Returns the same place, if the reply tells that it is done.
 fn told_place(alloc: Global, number: u64, reply: &Reply) -> Result<Line, PostgresFault>
     ensures { IfOk result (λ place. (reply.now.end ≡ text.moved) × TellsMove number reply.now.rows.items place) }
 {
@@ -95,7 +95,8 @@ fn told_place(alloc: Global, number: u64, reply: &Reply) -> Result<Line, Postgre
     }
 }
 
-/// Writes the mark behind the last entry, and begins the next generation, whose snapshot will have so many entries.
+/// Writes the mark behind the last entry, and begins the next generation, whose snapshot will have so
+/// many entries.
 fn ask_move<R: BufRead, W: Write>(
     alloc: Global,
     at: &Standing,
@@ -134,7 +135,7 @@ fn ask_move<R: BufRead, W: Write>(
 
 // ---- the snapshot
 
-/// The byte forms of the entries, in order.
+/// Returns the byte forms of the entries, in order.
 fn forms_of(alloc: Global, entries: &[Entry]) -> Result<Vec<Line>, PostgresFault>
     ensures { IfOk result (λ forms. AreForms entries.now forms.items) }
 {
@@ -149,7 +150,7 @@ fn forms_of(alloc: Global, entries: &[Entry]) -> Result<Vec<Line>, PostgresFault
     Ok(forms)
 }
 
-/// Goes behind the rows, where they hold just these forms, in order.
+/// Goes behind the rows, if they hold exactly these forms, in order.
 fn take_copies(at: &mut Standing, rows: VecDeque<Row>, forms: &[Line]) -> bool
     ensures { IsTrue result → TakesCopies rows.items forms.now at.old at.new }
 {
@@ -167,7 +168,7 @@ fn take_copies(at: &mut Standing, rows: VecDeque<Row>, forms: &[Line]) -> bool
     rest.is_empty()
 }
 
-/// Goes behind the copies, where the reply tells just these forms.
+/// Goes behind the copies, if the reply tells exactly these forms.
 fn take_told(
     alloc: Global,
     at: &mut Standing,
@@ -240,7 +241,8 @@ fn ask_copies<R: BufRead, W: Write>(
 
 // ---- the whole
 
-/// Undoes what isn't committed. Why the compaction failed, or `SessionEnded` where that couldn't be said.
+/// Undoes everything that isn't committed. Returns why the compaction failed, or `SessionEnded` if the
+/// rollback couldn't be written.
 fn undone<W: Write>(why: PostgresFault, questions: &mut W) -> PostgresFault
     ensures { (result ≡ fault.SessionEnded)
         ⊎ ((result ≡ why) × Appends (W.contents questions.old) (W.contents questions.new) text.undoing) }
@@ -274,8 +276,9 @@ fn copied<R: BufRead, W: Write>(
     }
 }
 
-/// Makes the generation the current one, with so many entries as its snapshot, and commits all of it. `OutOfMemory`
-/// before anything is asked. Where the server doesn't say that it refused, an `Err` is `Unsure`.
+/// Makes the generation the current one, with so many entries as its snapshot, and commits all of it.
+/// `OutOfMemory` comes before anything is asked. If the server doesn't say that it refused, an `Err` is
+/// `Unsure`.
 fn ask_go_on<R: BufRead, W: Write>(
     alloc: Global,
     log: u64,
@@ -305,8 +308,8 @@ fn ask_go_on<R: BufRead, W: Write>(
     Err(of_append(reply.refusal(b"went")))
 }
 
-/// Goes on in the next generation, which begins with these entries, and stands behind them. What isn't committed where
-/// it fails is undone.
+/// Goes on in the next generation, which begins with these entries, and stands behind them. If that
+/// fails, everything that isn't committed is undone.
 pub fn ask_compact<R: BufRead, W: Write>(
     alloc: Global,
     at: &Standing,

@@ -1,4 +1,4 @@
-//! Why a log in a database refused.
+//! The reason why a log in a database refused.
 
 ghost use Rattle.std.specs.Prelude.{◌≡◌};
 ghost use Rattle.iceoryx2_postgres_log.specs.Faults.{log_error_of, state_fault, is_over_by};
@@ -11,18 +11,20 @@ use std::alloc::AllocError;
 use std::error::Error;
 use std::fmt;
 
-/// Why a log in a database refused.
+/// The reason why a log in a database refused.
 #[derive(Clone, Copy, Debug, PartialEq, Eq)]
 pub enum PostgresFault {
-    /// Others held the log for as long as the patience allows.
+    /// Other handles held the log for as long as the patience allows.
     Busy,
-    /// There was no memory for a question, or for what was told.
+    /// There was no memory for a question, or for the reply.
     OutOfMemory,
-    /// The session has ended: a question could not be written, or the lines ended before its reply did.
+    /// The session has ended: a question could not be written, or the lines ended before the question's
+    /// reply did.
     SessionEnded,
-    /// The commit of an entry was asked for and not told. Whether the entry stands isn't known.
+    /// The commit of an entry was asked for, and no reply told of it. Nobody knows whether the entry
+    /// stands.
     Unsure,
-    /// Something else was told than what was asked for.
+    /// The reply tells something else than what was asked for.
     NotUnderstood,
     /// The database lacks the tables or the functions of the log.
     NoSchema,
@@ -36,7 +38,8 @@ pub enum PostgresFault {
     NoRight,
     /// The server, or the session, takes no writes.
     ReadOnly,
-    /// The place of this handle is told otherwise: the log went back in time, or another one has its name.
+    /// The server tells this handle's place otherwise: the log went back in time, or another log has its
+    /// name.
     AnotherHistory,
     /// The row of this number holds no entry.
     Damaged { number: u64 },
@@ -44,9 +47,9 @@ pub enum PostgresFault {
     HeldAlready,
     /// The handle doesn't hold the log.
     NotHeld,
-    /// Entries of others are unread, so nothing is appended yet.
+    /// Entries of other handles are unread, so nothing is appended yet.
     Unread,
-    /// The body of an entry is longer than any that is read.
+    /// The body of an entry is longer than any body that is read.
     TooLong,
     /// The entry is a mark, which only a compaction writes.
     IsAMark,
@@ -119,7 +122,7 @@ impl From<AllocError> for PostgresFault {
 }
 
 impl PostgresFault {
-    /// Whether a handle that meets this fault asks nothing any more.
+    /// Returns true if a handle that meets this fault asks nothing any more.
     pub fn is_over(self) -> bool
         ensures { result ≡ is_over_by self }
     {
@@ -137,7 +140,7 @@ impl PostgresFault {
     }
 }
 
-/// What an SQLSTATE other than `00000` means.
+/// Returns the fault that an SQLSTATE other than `00000` means.
 pub fn fault_of_state(state: [u8; 5]) -> PostgresFault
     ensures { result ≡ state_fault state }
 {
@@ -150,7 +153,7 @@ pub fn fault_of_state(state: [u8; 5]) -> PostgresFault
     }
 }
 
-/// What a log answers where its database refused.
+/// Returns the error that a log answers if its database refused for this fault.
 pub fn log_error(why: PostgresFault) -> LogError
     ensures value { result ≡ log_error_of why }
     ensures busy { result ≡ error.Busy → why ≡ fault.Busy }

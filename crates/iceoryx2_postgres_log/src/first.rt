@@ -14,7 +14,8 @@ use iceoryx2_log::form::{EntryError, decode};
 use std::alloc::Global;
 use std::collections::VecDeque;
 
-/// The entry whose byte form these are, of the row of this number. `Damaged` exactly where there is none.
+/// Returns the entry whose byte form these bytes are, of the row of this number. `Damaged` exactly if
+/// there is none.
 fn entry_of(alloc: Global, number: u64, form: &[u8]) -> Result<Entry, PostgresFault>
     ensures is { IfOk result (λ e. Begins form.now e (length form.now)) }
     ensures only { (e : declared.Entry) → Begins form.now e (length form.now)
@@ -36,7 +37,7 @@ fn entry_of(alloc: Global, number: u64, form: &[u8]) -> Result<Entry, PostgresFa
     }
 }
 
-/// Whether the entry marks that the log goes on in its next generation.
+/// Returns true if the entry marks that the log goes on in its next generation.
 pub fn is_mark(entry: &Entry) -> bool
     ensures { IsTrue result ↔ (entry.now.operation ≡ operation.Moved) }
 {
@@ -46,8 +47,8 @@ pub fn is_mark(entry: &Entry) -> bool
     }
 }
 
-/// The entry of the first row, or `None` where there is no row. `Moved` where it is a mark, and `Damaged` exactly where
-/// the row's bytes are no entry's form.
+/// Returns the entry of the first row, or `None` if there is no row. `Moved` if the entry is a mark.
+/// `Damaged` exactly if the row's bytes are no entry's form.
 pub fn first_of(alloc: Global, rows: &VecDeque<Row>) -> Result<Option<Entry>, PostgresFault>
     ensures ok { IfOk result (λ found. Shows found rows.now.items) }
     ensures err { IfErr result (WhyNone rows.now.items) }

@@ -1,4 +1,4 @@
-//! What a question comes to, by the lines of its reply.
+//! The result of a question, by the lines of its reply.
 
 ghost use Rattle.std.specs.Prelude.{◌≡◌, ◌≢◌, ◌⊎◌, ◌∷◌, [], true, Err, IfOk, IfErr, OnOk, OnErr, codes};
 ghost use Rattle.std.specs.Io.KnownBytes.{Appends};
@@ -24,7 +24,7 @@ use std::io::{BufRead, Write};
 
 // ---- where a log stands
 
-/// Where the log of a name stands, or `None` where there is no such log.
+/// Returns where the log of a name stands, or `None` if there is no such log.
 pub fn ask_opened<R: BufRead, W: Write>(
     alloc: Global,
     question: &[u8],
@@ -50,7 +50,7 @@ pub fn ask_opened<R: BufRead, W: Write>(
 
 // ---- reading
 
-/// Why the server refused a reading, where it says so; else `NotUnderstood`.
+/// Returns the reason why the server refused a reading, if it says so; else `NotUnderstood`.
 pub fn of_reading(why: PostgresFault) -> PostgresFault
     ensures { is_over_by result ≡ true }
 {
@@ -61,7 +61,7 @@ pub fn of_reading(why: PostgresFault) -> PostgresFault
     }
 }
 
-/// The rows behind the place up to `until`, or the first of them.
+/// Returns the rows behind the place up to `until`, or the first of them.
 pub fn ask_look<R: BufRead, W: Write>(
     alloc: Global,
     at: &Standing,
@@ -88,7 +88,7 @@ pub fn ask_look<R: BufRead, W: Write>(
     }
 }
 
-/// The rows behind the place, as a hold tells them: an empty row comes first, of the lock.
+/// Returns the rows behind the place, as a hold tells them: an empty row comes first, of the lock.
 fn held_piece(alloc: Global, at: &Standing, rows: &[Line]) -> Result<Piece, PostgresFault>
     ensures ok { IfOk result (IsHeldPiece at.now rows.now) }
     ensures err { IfErr result IsGrave }
@@ -120,8 +120,9 @@ pub fn write_letting_go<W: Write>(log: u64, questions: &mut W) -> Result<(), Pos
     }
 }
 
-/// Holds the log, and reads the rows behind the place, or the first of them. `Busy` where the server waited for
-/// another session as long as it does. What was locked and can't be taken for held is let go of.
+/// Holds the log, and reads the rows behind the place, or the first of them. `Busy` if the server waited
+/// for another session for as long as it does. If something was locked and can't be taken for held, the
+/// call lets go of it.
 pub fn ask_hold<R: BufRead, W: Write>(
     alloc: Global,
     at: &Standing,
@@ -159,7 +160,7 @@ pub fn ask_hold<R: BufRead, W: Write>(
 
 // ---- appending
 
-/// The byte form of an entry. `TooLong` where its body is longer than any that is read.
+/// Returns the byte form of an entry. `TooLong` if its body is longer than any body that is read.
 pub fn form_of(alloc: Global, entry: &Entry) -> Result<Vec<u8>, PostgresFault>
     ensures ok { IfOk result (λ form. IsForm entry.now form.items) }
     ensures err { IfErr result IsFormFault }
@@ -171,7 +172,7 @@ pub fn form_of(alloc: Global, entry: &Entry) -> Result<Vec<u8>, PostgresFault>
     }
 }
 
-/// Why the server refused, where it says so; else `Unsure`.
+/// Returns the reason why the server refused, if it says so; else `Unsure`.
 pub fn of_append(why: PostgresFault) -> PostgresFault
     ensures over { is_over_by result ≡ true }
     ensures known { result ≢ fault.NotUnderstood }
@@ -184,8 +185,9 @@ pub fn of_append(why: PostgresFault) -> PostgresFault
     }
 }
 
-/// Makes the form the entry of this number, and commits that. Answers its place. `OutOfMemory` before anything is
-/// asked; `NoSchema`, `NoRight`, `ReadOnly` and `Refused` where the server says that it refused; else `Unsure`.
+/// Makes the form the entry of this number, and commits that. Returns the entry's place. `OutOfMemory`
+/// comes before anything is asked. `NoSchema`, `NoRight`, `ReadOnly` and `Refused` come if the server
+/// says that it refused; else `Unsure`.
 pub fn ask_append<R: BufRead, W: Write>(
     alloc: Global,
     at: &Standing,
@@ -223,7 +225,7 @@ pub fn ask_append<R: BufRead, W: Write>(
 
 // ---- waiting
 
-/// Lets go of the log, and waits at the server. `OutOfMemory` before anything is asked.
+/// Lets go of the log, and waits at the server. `OutOfMemory` comes before anything is asked.
 pub fn ask_pause<R: BufRead, W: Write>(
     alloc: Global,
     log: u64,

@@ -39,7 +39,7 @@ impl Line {
         &self.bytes
     }
 
-    /// The same bytes once more. An `Err` is of memory.
+    /// Returns a copy of the same bytes. An `Err` is of memory.
     pub fn copy(&self, alloc: Global) -> Result<Line, AllocError>
         ensures { IfOk result (λ line. line ≡ self.now) }
     {
@@ -48,14 +48,14 @@ impl Line {
     }
 }
 
-/// Whether the bytes are the same.
+/// Returns true if the bytes are the same.
 pub fn is_same(some: &[u8], others: &[u8]) -> bool
     ensures { IsTrue result → some.now ≡ others.now }
 {
     some == others
 }
 
-/// What stands behind the front, where the text begins with it.
+/// Returns the text behind the prefix, if the text begins with that prefix.
 #[tactic(auto, using(crate::proofs::Parts::parts_of))]
 pub fn behind<'a>(text: &'a [u8], front: &[u8]) -> Option<&'a [u8]>
     ensures { IfSome result (λ rest. text.now ≡ front.now ++ rest.now) }

@@ -9,8 +9,8 @@ fn is_name_byte(byte: u8) -> bool
     byte.is_ascii_alphanumeric() || byte == b'.' || byte == b'_' || byte == b'-'
 }
 
-/// Whether a log may have this name: 1 to 63 of the letters, digits, `.`, `_` and `-` of ASCII, and a letter or a digit
-/// first. No such text ends a literal of SQL.
+/// Returns true if a log may have this name: 1 to 63 of the letters, digits, `.`, `_` and `-` of ASCII,
+/// with a letter or a digit first. No such text ends a literal of SQL.
 pub fn is_log_name(name: &str) -> bool
     ensures { IsTrue result ↔ IsLogName name.now }
 {

@@ -1,4 +1,4 @@
-//! Who a node is, and whether it is alive: sessions claim the nodes of a log by locks that go with them.
+//! The nodes of a log, and whether they are alive: sessions claim nodes by locks that end with the session.
 
 ghost use Rattle.std.specs.Prelude.{◌≡◌, ◌∷◌, [], map, codes, Err, IfOk, IfErr};
 ghost use Rattle.iceoryx2_postgres_log.specs.declared.fault.PostgresFault.TheVariants as fault;
@@ -25,7 +25,7 @@ pub struct NodeRow {
     pub is_alive: bool,
 }
 
-/// Asks what is answered by `t` or `f`, and nothing else.
+/// Asks a question that is answered by `t` or `f`, and nothing else.
 fn ask_whether<R: BufRead, W: Write>(
     alloc: Global,
     question: &str,
@@ -52,16 +52,17 @@ fn ask_whether<R: BufRead, W: Write>(
     Err(reply.refusal(mark))
 }
 
-/// Claims a node for as long as the session lasts, or until `release`, and answers whether it could: not where another
-/// session had it all of the patience, in milliseconds, or this one has it. The server waits for at least 1 ms, and for
-/// at most 2,147,483,647. The log is made where there is none.
+/// Claims a node for as long as the session lasts, or until `release`, and returns true if it could. It
+/// returns false if another session had the node for all of the patience, in milliseconds, or if this
+/// session has it. The server waits for at least 1 ms, and for at most 2,147,483,647. If there is no log,
+/// the call makes it.
 ///
 /// - `BadName`: no log has such a name. Nothing is asked.
 /// - `OutOfMemory`: there was no memory for the question, and nothing is asked.
-/// - `SessionEnded`: the question couldn't be written, the lines ended before its reply did, or there was no memory for
-///   them.
-/// - `NotUnderstood`: something else was told than what was asked for.
-/// - Any other: the server refused by the SQLSTATE of which it comes.
+/// - `SessionEnded`: the question couldn't be written, the lines ended before its reply did, or there was
+///   no memory for them.
+/// - `NotUnderstood`: the reply tells something else than what was asked for.
+/// - Any other: the server refused by the SQLSTATE that the error stands for.
 pub fn claim<R: BufRead, W: Write>(
     alloc: Global,
     name: &str,
@@ -94,9 +95,10 @@ pub fn claim<R: BufRead, W: Write>(
     )
 }
 
-/// Claims a node as `claim` does, and waits for nobody. So a session gets the node of another that has ended.
+/// Claims a node as `claim` does, and waits for nobody. So a session gets the node of another session
+/// that has ended.
 ///
-/// An `Err` comes as of `claim`.
+/// An `Err` comes as from `claim`.
 pub fn claim_dead<R: BufRead, W: Write>(
     alloc: Global,
     name: &str,
@@ -128,9 +130,9 @@ pub fn claim_dead<R: BufRead, W: Write>(
     )
 }
 
-/// Gives this session's claim of the node back, and answers whether there was one.
+/// Gives this session's claim of the node back, and returns true if there was one.
 ///
-/// An `Err` comes as of `claim`.
+/// An `Err` comes as from `claim`.
 pub fn release<R: BufRead, W: Write>(
     alloc: Global,
     name: &str,
@@ -162,10 +164,12 @@ pub fn release<R: BufRead, W: Write>(
     )
 }
 
-/// Claims the lowest node from 0 to 65,535 that no session has, and gives its number, or `None` where each is claimed.
-/// The log is made where there is none, and for who makes it at once is waited as `claim` waits.
+/// Claims the lowest node from 0 to 65,535 that no session has, and returns its number, or `None` if each
+/// is claimed. If there is no log, the call makes it. If another session makes the log at once, the call
+/// waits for it as `claim` waits.
 ///
-/// An `Err` comes as of `claim`; `OutOfMemory` also where the reply was read and there was no memory to compare it.
+/// An `Err` comes as from `claim`. `OutOfMemory` also comes if the reply was read and there was no memory
+/// to compare it.
 pub fn claim_free<R: BufRead, W: Write>(
     alloc: Global,
     name: &str,
@@ -201,10 +205,11 @@ pub fn claim_free<R: BufRead, W: Write>(
     }
 }
 
-/// Each node of the log that was ever claimed, by rising number, and whether a session has it. There is none if there is
-/// no such log.
+/// Returns each node of the log that was ever claimed, by rising number, and whether a session has it.
+/// Returns none if there is no such log.
 ///
-/// An `Err` comes as of `claim`; `OutOfMemory` also where the reply was read and there was no memory for the nodes.
+/// An `Err` comes as from `claim`. `OutOfMemory` also comes if the reply was read and there was no memory
+/// for the nodes.
 pub fn list<R: BufRead, W: Write>(
     alloc: Global,
     name: &str,

@@ -1,6 +1,7 @@
-//! Decimal numbers in a row. Whoever reads one writes it again, and compares: so no contract stands here.
+//! Decimal numbers in a row. Any caller that reads one writes it again, and compares: so no contract
+//! stands here.
 
-/// The number of these digits, if all are digits and it is below 2^64.
+/// Returns the number of these digits, if all are digits and the number is below 2^64.
 pub fn number_of(digits: &[u8]) -> Option<u64> {
     let mut number: u64 = 0;
     for digit in digits {
@@ -13,7 +14,7 @@ pub fn number_of(digits: &[u8]) -> Option<u64> {
     Some(number)
 }
 
-/// The number before the first space, and what stands behind that.
+/// Returns the number before the first space, and the text behind that space.
 pub fn number_before(text: &[u8]) -> Option<(u64, &[u8])> {
     let end = text.iter().position(|byte| *byte == b' ')?;
     let (digits, rest) = text.split_at_checked(end)?;

@@ -12,10 +12,10 @@ use crate::row::{Row, row_of};
 use std::alloc::Global;
 use std::collections::VecDeque;
 
-/// How many rows are read at most by one question.
+/// The highest number of rows that one question reads.
 pub const PIECE: usize = 64;
 
-/// What was read behind a place: the number of the last row there was, and the next rows.
+/// The rows that were read behind a place: the number of the last row there was, and the next rows.
 #[derive(Debug)]
 pub struct Piece {
     pub last: u64,
@@ -38,7 +38,8 @@ impl Piece {
     }
 }
 
-/// Why the first line isn't the place: it tells another one of this number, or something else.
+/// Returns the reason why the first line isn't the place: it tells another place of this number, or
+/// something else.
 fn why_elsewhere(number: u64, first: &[u8]) -> PostgresFault
     ensures { IsGrave result }
 {
@@ -54,7 +55,7 @@ fn why_elsewhere(number: u64, first: &[u8]) -> PostgresFault
     }
 }
 
-/// The number of the last row, which the first line tells behind the place.
+/// Returns the number of the last row, which the first line tells behind the place.
 fn last_of(alloc: Global, number: u64, place: &[u8], first: &[u8]) -> Result<u64, PostgresFault>
     ensures ok { IfOk result (TellsLast place.now first.now) }
     ensures err { IfErr result IsGrave }
@@ -77,7 +78,7 @@ fn last_of(alloc: Global, number: u64, place: &[u8], first: &[u8]) -> Result<u64
     Ok(last)
 }
 
-/// The rows of the numbers behind this one, where each line tells the next.
+/// Returns the rows of the numbers behind this one, if each line tells the next.
 pub fn rows_behind(
     alloc: Global,
     number: u64,
@@ -107,7 +108,7 @@ pub fn rows_behind(
     Ok(rows)
 }
 
-/// Whether so many rows behind this number are all up to `end`, or as many as one question reads.
+/// Returns true if so many rows behind this number are all up to `end`, or as many as one question reads.
 fn is_whole(number: u64, end: u64, count: usize) -> bool
     ensures { IsTrue result → IsWhole number end count }
 {
@@ -123,8 +124,9 @@ fn is_whole(number: u64, end: u64, count: usize) -> bool
     reached == end
 }
 
-/// The rows behind the place of this number and up to `until`, where the lines tell that place and then these rows.
-/// `AnotherHistory` where there is no line, or it tells another place of this number.
+/// Returns the rows behind the place of this number and up to `until`, if the lines tell that place and
+/// then these rows. `AnotherHistory` if there is no line, or if the line tells another place of this
+/// number.
 pub fn piece_of(
     alloc: Global,
     number: u64,

@@ -1,4 +1,5 @@
-//! The texts of the questions: what the client reads. Numbers are decimal, and bytes are hex in lower case.
+//! The texts of the questions, which the client reads. Each function returns a text; its comment tells
+//! what the text does. Numbers are decimal, and bytes are hex in lower case.
 
 ghost use Rattle.std.specs.Prelude.{◌≡◌, Bool, IfOk, string_bytes};
 ghost use Rattle.iceoryx2_postgres_log.specs.Questions as text;
@@ -6,18 +7,18 @@ ghost use Rattle.iceoryx2_postgres_log.specs.Questions as text;
 use crate::line::Line;
 use std::alloc::{AllocError, Global};
 
-/// The last number that a row of the log may have: what nothing bounds is read up to it.
+/// The last number that a row of the log may have: an unbounded read goes up to it.
 pub const END: u64 = 9_223_372_036_854_775_807;
 
-/// What a flag is to the server.
+/// Returns a flag in the words of the server.
 fn flag(is: bool) -> &'static str
     ensures { result.now ≡ text.flag is }
 {
     if is { "true" } else { "false" }
 }
 
-/// How long the session waits, and then where the log of this name stands, which is made where there is none and `makes`
-/// says so. The name is a log's, so nothing in it ends a literal.
+/// Sets how long the session waits, and then asks where the log of this name stands. If there is no log
+/// and `makes` says so, the log is made. The name is a log's, so nothing in it ends a literal.
 pub fn opening(alloc: Global, name: &str, makes: bool, wait: u64) -> Result<String, AllocError>
     ensures { IfOk result (λ question. string_bytes question ≡ text.opening name.now makes wait) }
 {
@@ -27,22 +28,22 @@ pub fn opening(alloc: Global, name: &str, makes: bool, wait: u64) -> Result<Stri
     )
 }
 
-/// Where the log of this name stands.
+/// Asks where the log of this name stands.
 pub fn reopening(alloc: Global, name: &str) -> Result<String, AllocError>
     ensures { IfOk result (λ question. string_bytes question ≡ text.reopening name.now) }
 {
     format!(in alloc; "select wulameron.opened('{name}', false);\n\\echo opened :SQLSTATE\n")
 }
 
-/// That a row is of this generation of this log.
+/// Says that a row is of this generation of this log.
 fn of_log(alloc: Global, log: u64, generation: u64) -> Result<String, AllocError>
     ensures { IfOk result (λ part. string_bytes part ≡ text.of_log log generation) }
 {
     format!(in alloc; "log = {log} and generation = {generation}")
 }
 
-/// The row of this number, with the number of the last row there is, and up to 64 rows behind it, none of them behind
-/// `until`. One statement, so all of it is of one moment.
+/// Asks for the row of this number, the number of the last row there is, and up to 64 rows behind this
+/// one, none of them behind `until`. It is one statement, so all of the reply is of one moment.
 fn reading(
     alloc: Global,
     log: u64,
@@ -58,8 +59,8 @@ fn reading(
     )
 }
 
-/// The log's gate is locked, and then it is read from this number on. Where that is refused it is undone, and
-/// the gate is given back, which nothing tells.
+/// Locks the log's gate, and then reads the log from this number on. If the reading is refused, it is
+/// undone, and the gate is given back, which nothing tells.
 pub fn holding(alloc: Global, log: u64, generation: u64, number: u64) -> Result<String, AllocError>
     ensures { IfOk result (λ question. string_bytes question ≡ text.holding log generation number) }
 {
@@ -69,7 +70,7 @@ pub fn holding(alloc: Global, log: u64, generation: u64, number: u64) -> Result<
     )
 }
 
-/// The log is read from this number on, up to `until`.
+/// Reads the log from this number on, up to `until`.
 pub fn looking(
     alloc: Global,
     log: u64,
@@ -83,7 +84,7 @@ pub fn looking(
     format!(in alloc; "{reading}\\echo read :SQLSTATE\n")
 }
 
-/// The bytes become the entry of this number, and that is committed. The next transaction begins at once.
+/// Makes the bytes the entry of this number, and commits that. The next transaction begins at once.
 pub fn appending(
     alloc: Global,
     log: u64,
@@ -99,7 +100,7 @@ pub fn appending(
     )
 }
 
-/// The gate is let go of, and the transaction ends. Nothing is told.
+/// Lets go of the gate, and ends the transaction. Nothing is told.
 pub fn letting_go(alloc: Global, log: u64) -> Result<String, AllocError>
     ensures { IfOk result (λ question. string_bytes question ≡ text.letting_go log) }
 {
@@ -108,7 +109,7 @@ pub fn letting_go(alloc: Global, log: u64) -> Result<String, AllocError>
     )
 }
 
-/// The same, and the server waits for five milliseconds.
+/// Does the same, and lets the server wait for five milliseconds.
 pub fn pausing(alloc: Global, log: u64) -> Result<String, AllocError>
     ensures { IfOk result (λ question. string_bytes question ≡ text.pausing log) }
 {
@@ -132,8 +133,8 @@ fn row_values(
     format!(in alloc; "({log}, {generation}, {number}, '\\x{digits}')")
 }
 
-/// The form of the mark becomes the entry of this number, and the `later` generation gets its row before the first
-/// entry.
+/// Makes the form of the mark the entry of this number, and gives the `later` generation its row before
+/// the first entry.
 pub fn moving(
     alloc: Global,
     log: u64,
@@ -151,7 +152,7 @@ pub fn moving(
     )
 }
 
-/// One statement that makes the bytes the entry of this number.
+/// Makes the bytes the entry of this number, in one statement.
 fn inserting(
     alloc: Global,
     log: u64,
@@ -167,7 +168,7 @@ fn inserting(
     )
 }
 
-/// The forms become the entries behind this number, in one message.
+/// Makes the forms the entries behind this number, in one message.
 pub fn copying(
     alloc: Global,
     log: u64,
@@ -191,8 +192,8 @@ pub fn copying(
     Ok(question)
 }
 
-/// The generation becomes the log's current one, with so many entries as its snapshot, and that is committed. The next
-/// transaction begins at once.
+/// Makes the generation the log's current one, with so many entries as its snapshot, and commits that.
+/// The next transaction begins at once.
 pub fn going_on(
     alloc: Global,
     log: u64,

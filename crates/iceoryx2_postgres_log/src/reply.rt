@@ -26,7 +26,7 @@ impl Drop for Reply {
 }
 
 impl Reply {
-    /// The only row, where there is one alone, and this is the end.
+    /// Returns the only row, if there is exactly one, and this is the end.
     pub fn only_row(self, end: &[u8]) -> Option<Line>
         ensures { IfSome result (λ row. (self.rows.items ≡ row ∷ []) × (self.end ≡ end.now)) }
     {
@@ -41,14 +41,14 @@ impl Reply {
         if rows.is_empty() { Some(row) } else { None }
     }
 
-    /// Whether this is the end.
+    /// Returns true if this is the end.
     pub fn ends(&self, end: &[u8]) -> bool
         ensures { IsTrue result → self.now.end ≡ end.now }
     {
         is_same(self.end.as_slice(), end)
     }
 
-    /// Whether the reply is this row alone, and this end.
+    /// Returns true if the reply is this row alone, and this end.
     pub fn is_exactly(&self, row: &[u8], end: &[u8]) -> bool
         ensures { IsTrue result → IsExactly self.now.rows.items self.now.end row.now end.now }
     {
@@ -58,7 +58,7 @@ impl Reply {
         }
     }
 
-    /// Whether the reply has at most two rows, whatever they tell, and this end.
+    /// Returns true if the reply has at most two rows, whatever they tell, and this end.
     pub fn is_short(&self, end: &[u8]) -> bool
         ensures { IsTrue result → (length self.now.rows.items ≤ 2) × (self.now.end ≡ end.now) }
     {
@@ -68,7 +68,7 @@ impl Reply {
         is_same(self.end.as_slice(), end)
     }
 
-    /// The SQLSTATE of the last line, where that is the mark, a space and five bytes.
+    /// Returns the SQLSTATE of the last line, if that line is the mark, a space and five bytes.
     pub fn state(&self, mark: &[u8]) -> Option<[u8; 5]>
         ensures { IfSome result (λ state. EndsWith mark.now self.now.end state) }
     {
@@ -80,8 +80,8 @@ impl Reply {
         }
     }
 
-    /// By what the server refused: the reply is one row, and the mark with another SQLSTATE than `00000`. Else
-    /// `NotUnderstood`.
+    /// Returns the fault by which the server refused: the reply is one row, and the mark with another
+    /// SQLSTATE than `00000`. Else returns `NotUnderstood`.
     pub fn refusal(&self, mark: &[u8]) -> PostgresFault
         ensures { (result ≡ fault.NotUnderstood) ⊎ Refuses mark.now self.now.rows.items self.now.end result }
     {
@@ -98,7 +98,8 @@ impl Reply {
     }
 }
 
-/// Writes a question, all of it. An `Err` is `SessionEnded`: whether the question had its effect isn't known.
+/// Writes a question, all of it. An `Err` is `SessionEnded`: nobody knows whether the question had its
+/// effect.
 pub fn write_question<W: Write>(questions: &mut W, question: &[u8]) -> Result<(), PostgresFault>
     ensures ok { OnOk result (Appends (W.contents questions.old) (W.contents questions.new) question.now) }
     ensures err { OnErr result (result ≡ Err fault.SessionEnded) }
@@ -113,7 +114,7 @@ pub fn write_question<W: Write>(questions: &mut W, question: &[u8]) -> Result<()
     }
 }
 
-/// The next line.
+/// Reads the next line.
 fn read_line<R: BufRead>(alloc: Global, replies: &mut R) -> Result<Line, PostgresFault>
     ensures all { IfOk result
         (λ line. Consumes (R.remaining replies.old) (R.remaining replies.new) (line ++ 10 ∷ [])) }
@@ -131,7 +132,7 @@ fn read_line<R: BufRead>(alloc: Global, replies: &mut R) -> Result<Line, Postgre
     }
 }
 
-/// The lines up to the first one that begins with the mark.
+/// Reads the lines up to the first one that begins with the mark.
 fn read_reply<R: BufRead>(
     alloc: Global,
     mark: &[u8],
@@ -155,9 +156,9 @@ fn read_reply<R: BufRead>(
     Err(PostgresFault::SessionEnded)
 }
 
-/// Asks, and hears the lines up to the first one that begins with the mark. An `Err` is `SessionEnded`: the question
-/// was not written, or the lines ended before its reply did, or there was no memory for them. Whether the question had
-/// its effect isn't known then, and the session is used no more.
+/// Asks, and reads the lines up to the first one that begins with the mark. An `Err` is `SessionEnded`:
+/// the question was not written, the lines ended before its reply did, or there was no memory for them.
+/// Nobody knows then whether the question had its effect, and the session is used no more.
 pub fn ask<R: BufRead, W: Write>(
     alloc: Global,
     question: &[u8],

@@ -7,7 +7,7 @@ use crate::line::{Line, behind};
 use hex::FromHexError;
 use std::alloc::{AllocError, Global};
 
-/// How many characters the sum has of a row and all rows before it: a SHA-256 in hex.
+/// The number of characters of the sum of a row and all rows before it: a SHA-256 in hex.
 pub const SUM_LENGTH: usize = 64;
 
 /// A row, by its number, with its place: the number and the sum, as the server tells them.
@@ -42,14 +42,14 @@ impl Row {
     }
 }
 
-/// The text before the sum in the place of this number.
+/// Returns the text before the sum in the place of this number.
 pub fn place_front(alloc: Global, number: u64) -> Result<String, AllocError>
     ensures { IfOk result (λ text. string_bytes text ≡ decimal number ++ codes " ") }
 {
     format!(in alloc; "{number} ")
 }
 
-/// Whether the text is a place of this number.
+/// Returns true if the text is a place of this number.
 pub fn is_place(alloc: Global, number: u64, text: &[u8]) -> Result<bool, AllocError>
     ensures { IfOk result (λ is. IsTrue is → IsPlace number text.now) }
 {
@@ -60,7 +60,7 @@ pub fn is_place(alloc: Global, number: u64, text: &[u8]) -> Result<bool, AllocEr
     }
 }
 
-/// The row of this number, if the line tells it.
+/// Returns the row of this number, if the line tells it.
 pub fn row_of(alloc: Global, number: u64, line: &[u8]) -> Result<Option<Row>, AllocError>
     ensures { IfOk result (λ found. IfSome found (IsRow number line.now)) }
 {

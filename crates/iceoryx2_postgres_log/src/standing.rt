@@ -1,4 +1,4 @@
-//! Where a handle stands in a log, and how the server tells it.
+//! The place of a handle in a log, and how the server tells it.
 
 ghost use Rattle.std.specs.Prelude.{◌≡◌, ◌≢◌, ◌≤◌, ◌<◌, ◌⊎◌, ◌++◌, false};
 ghost use Rattle.std.specs.Prelude.{IfOk, IsTrue, codes, string_bytes};
@@ -15,19 +15,19 @@ use std::alloc::{AllocError, Global};
 /// The version of the tables.
 pub const VERSION: u64 = 1;
 
-/// Where a handle stands: behind which entry of which generation of which log.
+/// The place of a handle: behind which entry of which generation of which log it stands.
 #[derive(Debug)]
 pub struct Standing {
     /// The log's number at the server.
     pub log: u64,
     pub generation: u64,
-    /// With which number the counter of services begins in this generation.
+    /// The number with which the counter of services begins in this generation.
     pub counter: u64,
-    /// How many entries of the generation are its snapshot.
+    /// The number of the generation's entries that are its snapshot.
     pub snapshot: u64,
     /// The number of the last entry that was taken over or appended: 0 before the first one.
     pub number: u64,
-    /// What the server tells of it: its number, and the sum of all rows up to it.
+    /// The server's text for this number: the number, and the sum of all rows up to it.
     pub place: Line,
 }
 
@@ -46,7 +46,7 @@ impl Drop for Standing {
 }
 
 impl Standing {
-    /// The same once more. An `Err` is of memory.
+    /// Returns a copy. An `Err` is of memory.
     pub fn copy(&self, alloc: Global) -> Result<Standing, AllocError>
         ensures { IfOk result (λ at. at ≡ self.now) }
     {
@@ -85,7 +85,7 @@ struct Start {
     snapshot: u64,
 }
 
-/// The four numbers behind the version.
+/// Returns the four numbers behind the version.
 fn start_of(text: &[u8]) -> Option<Start> {
     let (log, rest) = number_before(text)?;
     let (generation, rest) = number_before(rest)?;
@@ -99,7 +99,7 @@ fn start_of(text: &[u8]) -> Option<Start> {
     })
 }
 
-/// What a row that tells this start has before the sum.
+/// Returns the text before the sum in a row that tells this start.
 fn front(alloc: Global, start: &Start) -> Result<String, AllocError>
     ensures { IfOk result (λ text. string_bytes text
         ≡ spec.start_front start.now.log start.now.generation start.now.counter start.now.snapshot) }
@@ -113,7 +113,7 @@ fn front(alloc: Global, start: &Start) -> Result<String, AllocError>
     format!(in alloc; "1 {log} {generation} {counter} {snapshot} ")
 }
 
-/// The place before the first entry.
+/// Returns the place before the first entry.
 pub fn first_place(alloc: Global, sum: &[u8]) -> Result<Line, AllocError>
     ensures { IfOk result (λ place. place ≡ place_text 0 sum.now) }
 {
@@ -123,8 +123,8 @@ pub fn first_place(alloc: Global, sum: &[u8]) -> Result<Line, AllocError>
     Ok(Line::new(place))
 }
 
-/// Before the first entry, as this row tells it. `AnotherVersion` where it begins with the number of another one, and
-/// `NotUnderstood` where it tells no start.
+/// Returns the standing before the first entry, as this row tells it. `AnotherVersion` if the row begins
+/// with the number of another version, and `NotUnderstood` if the row tells no start.
 pub fn standing_of(alloc: Global, row: &[u8]) -> Result<Standing, PostgresFault>
     ensures { IfOk result (IsStart row.now) }
 {
@@ -159,7 +159,7 @@ pub fn standing_of(alloc: Global, row: &[u8]) -> Result<Standing, PostgresFault>
     })
 }
 
-/// Whether this is the start of a later generation of the same log.
+/// Returns true if this is the start of a later generation of the same log.
 pub fn is_later(at: &Standing, start: &Standing) -> bool
     ensures { result ≡ spec.is_later at.now start.now }
 {
@@ -169,7 +169,7 @@ pub fn is_later(at: &Standing, start: &Standing) -> bool
     at.generation < start.generation
 }
 
-/// Whether this is the start of the same log, in the same generation or in a later one.
+/// Returns true if this is the start of the same log, in the same generation or in a later one.
 pub fn is_still(at: &Standing, start: &Standing) -> bool
     ensures still { IsTrue result → (start.now.log ≡ at.now.log) × (at.now.generation ≤ start.now.generation) }
     ensures other { result ≡ false → (start.now.log ≢ at.now.log) ⊎ (start.now.generation < at.now.generation) }

@@ -1,4 +1,4 @@
-//! What a node still has.
+//! The things that a node still has.
 
 ghost use Rattle.std.specs.Prelude.{◌≡◌};
 ghost use Rattle.iceoryx2_table.specs.Holdings.{held_ticket, held_service, held_tag};
@@ -7,7 +7,7 @@ ghost use Rattle.iceoryx2_table.specs.Holdings.{is_unfinished as is_unfinished_s
 use iceoryx2_description::description::ServiceHash;
 use iceoryx2_world::world::{Participant, Phase, Ticket};
 
-/// Something that a node has, and that stays where the node doesn't give it back.
+/// Something that a node has, and that stays if the node doesn't give it back.
 #[derive(Clone, Copy, Debug, PartialEq, Eq)]
 pub enum Holding {
     /// A ticket for the service of this number.
@@ -27,7 +27,8 @@ pub enum Holding {
     },
 }
 
-/// Whether a node of this phase has the service's lock, or has to remove what is left of it.
+/// Returns true if a node of this phase has the service's lock, or has to remove what is left of the
+/// service.
 pub fn is_unfinished(phase: Phase) -> bool
     ensures { result ≡ is_unfinished_spec phase }
 {
@@ -37,7 +38,7 @@ pub fn is_unfinished(phase: Phase) -> bool
     }
 }
 
-/// The node's first ticket.
+/// Returns the node's first ticket.
 pub fn first_ticket(tickets: &[(u64, Ticket)], node: u64) -> Option<Holding>
     ensures { result ≡ held_ticket node tickets.now }
 {
@@ -51,7 +52,7 @@ pub fn first_ticket(tickets: &[(u64, Ticket)], node: u64) -> Option<Holding>
     }
 }
 
-/// The first service that the node hasn't finished with.
+/// Returns the first service that the node hasn't finished with.
 pub fn first_service(phases: &[((Participant, ServiceHash), Phase)], node: u64) -> Option<Holding>
     ensures { result ≡ held_service node phases.now }
 {
@@ -67,7 +68,7 @@ pub fn first_service(phases: &[((Participant, ServiceHash), Phase)], node: u64) 
     }
 }
 
-/// The node's first tag.
+/// Returns the node's first tag.
 pub fn first_tag(tags: &[((u64, ServiceHash), ())], node: u64) -> Option<Holding>
     ensures { result ≡ held_tag node tags.now }
 {

@@ -3,7 +3,7 @@
 use crate::table::Table;
 use iceoryx2_access::storage::{Service, Sha1Hasher};
 
-/// Services that stand in a [`Table`], under hashes by SHA-1.
+/// Services in a [`Table`], under hashes by SHA-1.
 #[derive(Clone, Copy, Debug, PartialEq, Eq)]
 pub struct Local;
 

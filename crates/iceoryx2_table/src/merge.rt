@@ -1,4 +1,4 @@
-//! What a table lists: one walk over its rows and its segments.
+//! The list of a table: one walk over its rows and its segments.
 
 ghost use Rattle.std.specs.Prelude.{◌≡◌, ◌<◌, ◌≤◌, ◌+◌, ◌++◌, ◌∷◌, [], IfOk, OnOk, length};
 ghost use Rattle.std.specs.Option.{option_copied};
@@ -94,7 +94,7 @@ fn push_next(
     }
 }
 
-/// The rows and the segments, each hash once, in ascending order.
+/// Returns the rows and the segments, each hash once, in ascending order.
 pub fn merge_entries(
     alloc: Global,
     rows: &[(ServiceHash, StoredRow)],

@@ -1,4 +1,4 @@
-//! What a table keeps of all nodes, whatever its maps are.
+//! The content that a table keeps of all nodes, whatever its maps are.
 
 ghost use Rattle.std.specs.Prelude.{◌≡◌, IfOk};
 ghost use Rattle.iceoryx2_access.specs.Letter as letter;
@@ -17,71 +17,74 @@ use iceoryx2_world::batches::Step;
 use iceoryx2_world::listing::Entry;
 use std::alloc::{AllocError, Global};
 
-/// What keeps a world, with the own part of each of the twelve accesses of a node.
+/// A type that keeps a world, with the own part of each of the twelve accesses of a node.
 ///
 /// An access that is refused, or that finds no memory, changes nothing.
 pub trait OwnParts: Sized {
     /// The world that it keeps.
     ghost world: { Self → World };
 
-    /// Nothing yet, with the counter's first value. Takes no memory.
+    /// Returns an empty world with the counter's first value. Takes no memory.
     fn starting_at(alloc: Global, counter: u64) -> Self
         ensures { world result ≡ empty_world counter };
 
-    /// Lets all go.
+    /// Lets all of it go.
     // In place of a bound `Drop`: with that one no type of services can name a table over maps whose keys are pairs.
     fn let_go(self);
 
-    /// Takes a batch's steps in order, and gives the count of skipped steps after them. It stops at `u64::MAX`.
+    /// Takes a batch's steps in order, and returns the count of skipped steps after them. The count stops
+    /// at `u64::MAX`.
     fn take_all(&mut self, batch: &[Step], skipped: u64) -> u64
         ensures { IsBatch (world self.old, skipped) batch.now (world self.new, result) };
 
-    /// Each service with a row or a segment, in the order of the hashes' bytes.
+    /// Returns each service with a row or a segment, in the order of the hashes' bytes.
     fn list(&self) -> Result<Vec<Entry>, AllocError>
         ensures { IfOk result (λ entries. Lists (world self.now) entries.items) };
 
-    /// Whether the node has a tag for the service.
+    /// Returns true if the node has a tag for the service.
     fn has_tag(&self, node: u64, hash: &ServiceHash) -> bool
         ensures { result ≡ tag_of (world self.now) node hash.now };
 
-    /// How many tickets the node has for the service. It goes through all tickets, and takes no memory.
+    /// Returns the number of tickets that the node has for the service. Goes through all tickets, and
+    /// takes no memory.
     fn tickets(&self, node: u64, hash: &ServiceHash) -> u64
         ensures { result ≡ ticket_count (world self.now).tickets node hash.now };
 
-    /// The next number or ticket: what `lock` and `open_segment` hand out where they are granted.
+    /// Returns the next number or ticket: the one that `lock` and `open_segment` hand out if they are
+    /// granted.
     fn counter(&self) -> u64
         ensures { result ≡ (world self.now).counter };
 
-    /// `No` where nothing is written under the hash, `BeingSetUp` where somebody holds its lock, and `Yes` where it is
-    /// published.
+    /// Returns `No` if nothing is written under the hash, `BeingSetUp` if somebody holds its lock, and
+    /// `Yes` if it is published.
     fn exists(&self, hash: &ServiceHash) -> Existence
         ensures { IsOwnPart (world self.now) (letter.Exists hash.now result) (world self.now) };
 
-    /// The number and the bytes of what is published, which the node has read then. `DoesNotExist`, `NotFinalized`
-    /// while it is being set up, `OutOfMemory`.
+    /// Returns the number and the bytes of the published description, which the node has read then.
+    /// `DoesNotExist`, `NotFinalized` while the service is being set up, `OutOfMemory`.
     fn fetch(&mut self, node: u64, hash: &ServiceHash) -> Result<(u64, Vec<u8>), FetchError>
         ensures { IsOwnPart (world self.old) (letter.Fetch node hash.now (fetch_answer result)) (world self.new) };
 
-    /// Whether the node is registered in the service's segment.
+    /// Returns true if the node is registered in the service's segment.
     fn counts(&self, node: u64, hash: &ServiceHash) -> bool
         ensures { IsOwnPart (world self.now) (letter.Counts node hash.now result) (world self.now) };
 
-    /// `Found` where the node's tag is there, else `Made`. `OutOfMemory`.
+    /// Makes the node's tag. Returns `Found` if the tag is there already, else `Made`. `OutOfMemory`.
     fn make_tag(&mut self, node: u64, hash: &ServiceHash) -> Result<Tag, TagError>
         ensures { IsOwnPart (world self.old) (letter.MakeTag node hash.now result) (world self.new) };
 
-    /// The node's tag isn't there any more.
+    /// Removes the node's tag.
     fn remove_tag(&mut self, node: u64, hash: &ServiceHash) -> Result<(), RemoveError>
         ensures { IsOwnPart (world self.old) (letter.RemoveTag node hash.now result) (world self.new) };
 
-    /// The node holds the service's lock, whose number is the counter before. `Creation` while another holds it,
-    /// `AlreadyExists` where it is published, `OutOfMemory`, and `Other` where no number is left and where the node
-    /// holds something there.
+    /// Gives the node the service's lock, and returns its number: the counter before. `Creation` while
+    /// another node holds the lock, `AlreadyExists` if the service is published, and `OutOfMemory`.
+    /// `Other` if no number is left, or if the node holds something there.
     fn lock(&mut self, node: u64, hash: &ServiceHash) -> Result<u64, LockError>
         ensures { IsOwnPart (world self.old) (letter.Lock node hash.now result) (world self.new) };
 
-    /// There is a segment for so many nodes, and the node is in it. `AlreadyExists`, `OutOfMemory`, and `Other` where
-    /// the node doesn't hold the lock of that number, and for no nodes.
+    /// Makes a segment for so many nodes, and puts the node into it. `AlreadyExists`, and `OutOfMemory`.
+    /// `Other` if the node doesn't hold the lock of that number, or for no nodes.
     fn make_segment(
         &mut self,
         node: u64,
@@ -92,16 +95,17 @@ pub trait OwnParts: Sized {
         ensures { IsOwnPart (world self.old) (letter.MakeSegment node hash.now number max_nodes result)
             (world self.new) };
 
-    /// The segment isn't there any more. `Other` where the node may not take it away.
+    /// Removes the segment. `Other` if the node may not remove it.
     fn remove_segment(&mut self, node: u64, hash: &ServiceHash) -> Result<(), RemoveError>
         ensures { IsOwnPart (world self.old) (letter.RemoveSegment node hash.now result) (world self.new) };
 
-    /// Nothing is written under the hash any more. `Other` where the node may not take it away.
+    /// Removes what is written under the hash. `Other` if the node may not remove it.
     fn remove_description(&mut self, node: u64, hash: &ServiceHash) -> Result<(), RemoveError>
         ensures { IsOwnPart (world self.old) (letter.RemoveDescription node hash.now result) (world self.new) };
 
-    /// The description is published under the number, which is the ticket of the node, registered then.
-    /// `OutOfMemory`, and `Other` where the node hasn't made a segment of that number which the description fits.
+    /// Publishes the description under the number, which becomes the ticket of the node: the node is
+    /// registered then. `OutOfMemory`. `Other` if the node hasn't made a segment of that number that the
+    /// description fits.
     fn publish(
         &mut self,
         node: u64,
@@ -112,9 +116,10 @@ pub trait OwnParts: Sized {
         ensures { IsOwnPart (world self.old) (letter.Publish node hash.now number description.now result)
             (world self.new) };
 
-    /// The node is registered in the segment of that number, and has a ticket, which is the counter before.
-    /// `DoesNotExist`, `Marked` where all have left, `Full`, `OutOfNumbers`, `OutOfMemory`, and `Failed` where the
-    /// segment or what the node has read has another number, and where the node can't join.
+    /// Registers the node in the segment of that number, and returns its ticket: the counter before.
+    /// `DoesNotExist`, `Marked` if all have left, `Full`, `OutOfNumbers`, and `OutOfMemory`. `Failed` if
+    /// the segment has another number, or the description that the node has read, or if the node can't
+    /// join.
     fn open_segment(
         &mut self,
         node: u64,
@@ -123,9 +128,9 @@ pub trait OwnParts: Sized {
     ) -> Result<u64, OpenSegmentError>
         ensures { IsOwnPart (world self.old) (letter.OpenSegment node hash.now number result) (world self.new) };
 
-    /// The ticket isn't there any more: `StillCounted` where the node has others, `Left`, and `Last` where nobody
-    /// stays, whose segment is marked then. `NoSuchTicket` where the node has no such ticket for the service and
-    /// number.
+    /// Releases the ticket. Returns `StillCounted` if the node has others, else `Left`, or `Last` if
+    /// nobody stays; the segment is then marked. `NoSuchTicket` if the node has no such ticket for the
+    /// service and number.
     fn release(
         &mut self,
         ticket: u64,

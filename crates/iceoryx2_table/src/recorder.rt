@@ -1,18 +1,19 @@
-//! What writes an access down before it changes anything.
+//! The recorder, which writes an access down before the access changes anything.
 
 ghost use Rattle.std.specs.Prelude.{OnOk, OnErr};
 
-/// It was not written down.
+/// The error of a recorder: the access was not written down.
 #[derive(Clone, Copy, Debug, PartialEq, Eq)]
 pub struct NotWritten;
 
-/// What writes an access down. An access that will change what is kept asks it once, after all its tests and all
-/// that it asks of memory, and before its first change. One that is refused or changes nothing doesn't ask.
+/// Writes an access down. An access that will change something asks the recorder once, after all its
+/// tests and all its requests for memory, and before its first change. An access that is refused or
+/// changes nothing doesn't ask.
 pub trait Recorder {
-    /// It wrote.
+    /// The recorder wrote the access down.
     ghost written: { Self → Self → Type 0 };
 
-    /// It refused.
+    /// The recorder refused.
     ghost refused: { Self → Self → Type 0 };
 
     /// Writes down the access that asks. On an error that access changes nothing.
@@ -21,7 +22,7 @@ pub trait Recorder {
         ensures refused { OnErr result (refused self.old self.new) };
 }
 
-/// Writes nothing, and never refuses.
+/// A recorder that writes nothing, and never refuses.
 #[derive(Clone, Copy, Debug, PartialEq, Eq)]
 pub struct Unrecorded;
 

@@ -9,7 +9,7 @@ use iceoryx2_world::world::Bytes;
 use std::alloc::Global;
 use std::marker::Model;
 
-/// A row as it is kept: a struct, which an insertion beside it moves as a whole.
+/// A row as a table keeps it: a struct, which moves as a whole when a row is inserted beside it.
 #[derive(Drop)]
 pub struct StoredRow {
     number: u64,
@@ -30,7 +30,7 @@ impl Model for StoredRow {
     ghost view = { λ r. row_with r.is_published r.number r.bytes };
 }
 
-/// What a row tells without its bytes.
+/// A row without its bytes.
 #[derive(Clone, Copy, Debug, PartialEq, Eq)]
 pub enum RowState {
     /// Somebody is creating the service of this number.
@@ -40,7 +40,7 @@ pub enum RowState {
 }
 
 impl StoredRow {
-    /// The row of who creates the service of this number. Takes no memory.
+    /// Returns the row of a participant that creates the service of this number. Takes no memory.
     pub fn locked(alloc: Global, number: u64) -> StoredRow
         ensures { result ≡ row.Locked number }
     {
@@ -51,7 +51,7 @@ impl StoredRow {
         }
     }
 
-    /// The row of the service of this number with its description's bytes.
+    /// Returns the row of the service of this number with its description's bytes.
     pub fn published(number: u64, bytes: Vec<u8>) -> StoredRow
         ensures { result ≡ row.Published number bytes.items }
     {
@@ -62,7 +62,7 @@ impl StoredRow {
         }
     }
 
-    /// Whose row it is, and whether it is published.
+    /// Returns the service's number, and whether the service is published.
     pub fn state(&self) -> RowState
         ensures { IsStateOf self.now result }
     {
@@ -72,14 +72,14 @@ impl StoredRow {
         RowState::Locked(self.number)
     }
 
-    /// The service's number.
+    /// Returns the service's number.
     pub fn number(&self) -> u64
         ensures { result ≡ row_number self.now }
     {
         self.number
     }
 
-    /// The description's bytes, where it is published.
+    /// Returns the description's bytes, if the service is published.
     pub fn bytes(&self) -> &Bytes
         ensures { HasBytes self.now result.now }
     {

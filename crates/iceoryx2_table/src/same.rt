@@ -1,4 +1,4 @@
-//! Whether two stored worlds are the same, but for who has only read.
+//! The comparison of two stored worlds, except for participants that have only read.
 
 ghost use Rattle.std.specs.Prelude.{◌≡◌, ◌↔◌, not, IsTrue};
 ghost use Rattle.std.specs.List.{list_any};
@@ -85,8 +85,9 @@ fn same_phases(
 }
 
 impl StoredWorld {
-    /// Whether the other world is the same, but for who has only read: rows, segments, tags, tickets and the counter
-    /// are equal, and so are the phases that are neither Idle nor Read. It goes once through both, and takes no memory.
+    /// Returns true if the other world is the same, except for participants that have only read. Rows,
+    /// segments, tags, tickets and the counter are equal, and so are the phases that are neither Idle nor
+    /// Read. Goes once through both worlds, and takes no memory.
     pub fn is_same(&self, other: &StoredWorld) -> bool
         ensures { IsTrue result ↔ IsSameButRead self.now other.now }
     {

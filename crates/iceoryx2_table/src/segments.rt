@@ -18,7 +18,7 @@ use iceoryx2_world::world::{Participant, Phase};
 use std::alloc::{AllocError, Global};
 use std::marker::Model;
 
-/// A segment as it is kept.
+/// A segment as a table keeps it.
 #[derive(Drop)]
 pub struct StoredSegment {
     number: u64,
@@ -46,7 +46,7 @@ impl Model for StoredSegment {
 }
 
 impl StoredSegment {
-    /// A segment that one participant makes for itself.
+    /// Returns a segment that one participant makes for itself.
     pub fn new(
         alloc: Global,
         participant: Participant,
@@ -66,42 +66,42 @@ impl StoredSegment {
         })
     }
 
-    /// The number of the service that it was made for.
+    /// Returns the number of the service that the segment was made for.
     pub fn number(&self) -> u64
         ensures { result ≡ self.now.number }
     {
         self.number
     }
 
-    /// How many participants it takes.
+    /// Returns the number of participants that the segment takes.
     pub fn capacity(&self) -> u64
         ensures { result ≡ self.now.capacity }
     {
         self.capacity
     }
 
-    /// All have left it.
+    /// Returns true if all participants have left the segment.
     pub fn is_marked(&self) -> bool
         ensures { result ≡ self.now.marked }
     {
         self.marked
     }
 
-    /// Who is in it: nodes before peers, each by number.
+    /// Returns the participants in the segment: nodes before peers, each by number.
     pub fn participants(&self) -> &[(Participant, ())]
         ensures { result.now ≡ map.entries self.now.participants }
     {
         self.participants.entries()
     }
 
-    /// How many are in it.
+    /// Returns the number of participants in the segment.
     pub fn count(&self) -> u64
         ensures { result ≡ set.len self.now.participants }
     {
         self.participants.len() as u64
     }
 
-    /// Whether the participant is in it, by one binary search.
+    /// Returns true if the participant is in the segment, by one binary search.
     pub fn contains(&self, participant: &Participant) -> bool
         ensures { result ≡ set.contains self.now.participants participant.now }
     {
@@ -114,14 +114,14 @@ impl StoredSegment {
         self.number == number && !self.marked && (self.participants.len() as u64) < self.capacity
     }
 
-    /// It is described so: for this service, and for as many nodes.
+    /// Returns true if the description fits the segment: it is for this service, and for as many nodes.
     pub fn fits(&self, hash: &ServiceHash, description: &StaticConfig) -> bool
         ensures { result ≡ fits_spec hash.now self.now description.now }
     {
         description.service_hash().cmp(hash).is_eq() && description.max_nodes() == self.capacity
     }
 
-    /// Why it isn't opened.
+    /// Returns the reason why the segment isn't opened, if there is one.
     pub fn refusal(&self, number: u64, counter: u64, phase: Phase) -> Option<OpenSegmentError>
         ensures { result ≡ segment_refusal number self.now counter phase }
     {
@@ -160,7 +160,7 @@ impl StoredSegment {
         }
     }
 
-    /// The segment as it is listed.
+    /// Returns the segment as it is listed.
     pub fn to_listed(&self) -> ListedSegment
         ensures { result ≡ listed_segment self.now }
     {
@@ -172,7 +172,8 @@ impl StoredSegment {
         }
     }
 
-    /// It takes one more with this number, which is written down before. True where it has.
+    /// Admits one more participant if the segment has this number and room. The recorder writes that down
+    /// before. Returns true if the participant was admitted.
     pub fn admit<R: Recorder>(
         &mut self,
         recorder: &mut R,
@@ -196,7 +197,7 @@ impl StoredSegment {
         Ok(true)
     }
 
-    /// One goes; the last one marks the segment. True where others stay.
+    /// Dismisses a participant; the last one marks the segment. Returns true if others stay.
     pub fn dismiss(&mut self, participant: Participant) -> bool
         ensures { Dismisses participant self.old result self.new }
     {

@@ -1,4 +1,4 @@
-//! What stands for the services, and the steps of one participant at one of them.
+//! The content that a table keeps of the services, and the steps of one participant at one of them.
 
 ghost use Rattle.std.specs.Prelude.{◌≡◌, ◌≢◌, ◌<◌, ◌+◌, is_some, Some, None, IsSome, IsTrue, IfOk, Ok, true};
 ghost use Rattle.std.specs.FinMap as map;
@@ -68,7 +68,7 @@ impl Model for Services {
     } };
 }
 
-/// Where a participant's phase stands, or would stand, and the phase.
+/// The place of a participant's phase, or where it would be, and the phase.
 #[derive(Clone, Copy, Debug, PartialEq, Eq)]
 pub struct Position {
     pub place: Place,
@@ -109,7 +109,7 @@ fn set_phase(
     }
 }
 
-/// The participant holds nothing.
+/// Returns true if the participant holds nothing.
 pub fn begins(phase: Phase) -> bool
     ensures { result ≡ begins_spec phase }
 {
@@ -119,7 +119,7 @@ pub fn begins(phase: Phase) -> bool
     }
 }
 
-/// The phase of who takes the segment away, where it may.
+/// Returns the phase of a participant after it has removed the segment, if it may remove it.
 pub fn without_segment(phase: Phase) -> Option<Phase>
     ensures effect { TakesSegment phase result }
     ensures held { IsSome result → phase ≢ Phase.Idle }
@@ -131,7 +131,7 @@ pub fn without_segment(phase: Phase) -> Option<Phase>
     }
 }
 
-/// Whether it may take the description away.
+/// Returns true if the participant may remove the description.
 pub fn may_remove_description(phase: Phase) -> bool
     ensures effect { TakesDescription phase result }
     ensures held { IsTrue result → phase ≢ Phase.Idle }
@@ -142,13 +142,13 @@ pub fn may_remove_description(phase: Phase) -> bool
     }
 }
 
-/// Each step is a method. It answers true where the step was allowed and has had its effect, and false
-/// where it is forbidden, and then nothing has changed. `AllocError` comes only where it was allowed and
-/// found no memory, and nothing has changed then either. Each step but a read is written down by a
-/// `Recorder`, once, after its tests and what it asks of memory and before its change. Where the recorder refuses, the
-/// step answers as where it is forbidden.
+/// Each step is a method. It answers true if the step was allowed and has had its effect. It answers
+/// false if the step is forbidden; nothing has changed then. `AllocError` comes only if the step was
+/// allowed and found no memory, and nothing has changed then either. A `Recorder` writes down each step
+/// but a read, once: after the step's tests and its requests for memory, and before its change. If the
+/// recorder refuses, the step answers as if it were forbidden.
 impl Services {
-    /// Nothing yet, with the counter's first value. Takes no memory.
+    /// Returns an empty state with the counter's first value. Takes no memory.
     pub fn starting_at(alloc: Global, counter: u64) -> Services
         ensures { result
             ≡ (record { rows = map.empty; segments = map.empty; phases = map.empty; counter = counter }) }
@@ -161,7 +161,7 @@ impl Services {
         }
     }
 
-    /// Each hash with a row or a segment, in ascending order.
+    /// Returns each hash with a row or a segment, in ascending order.
     pub fn list(&self) -> Result<Vec<Entry>, AllocError>
         ensures { IfOk result (λ entries. ListsAll self.now.rows self.now.segments entries.items) }
     {
@@ -172,14 +172,14 @@ impl Services {
         )
     }
 
-    /// The first service that the node hasn't finished with.
+    /// Returns the first service that the node hasn't finished with.
     pub fn unfinished(&self, node: u64) -> Option<Holding>
         ensures { result ≡ held_service node (map.entries self.now.phases) }
     {
         first_service(self.phases.entries(), node)
     }
 
-    /// The next number.
+    /// Returns the next number.
     pub fn counter(&self) -> u64
         ensures { result ≡ self.now.counter }
     {
@@ -197,49 +197,49 @@ impl Services {
         number
     }
 
-    /// The next number is this one.
+    /// Makes this number the next one.
     pub fn go_on_at(&mut self, number: u64)
         ensures { self.new ≡ record self.old { counter = number } }
     {
         self.counter = number;
     }
 
-    /// The rows, by hash.
+    /// Returns the rows, by hash.
     pub fn rows_held(&self) -> &[(ServiceHash, StoredRow)]
         ensures { result.now ≡ map.entries self.now.rows }
     {
         self.rows.entries()
     }
 
-    /// The segments, by hash.
+    /// Returns the segments, by hash.
     pub fn segments_held(&self) -> &[(ServiceHash, StoredSegment)]
         ensures { result.now ≡ map.entries self.now.segments }
     {
         self.segments.entries()
     }
 
-    /// The phases, by participant and then by hash. Who is absent is Idle.
+    /// Returns the phases, by participant and then by hash. An absent participant is Idle.
     pub fn phases_held(&self) -> &[((Participant, ServiceHash), Phase)]
         ensures { result.now ≡ map.entries self.now.phases }
     {
         self.phases.entries()
     }
 
-    /// The service's segment.
+    /// Returns the service's segment.
     pub fn segment(&self, hash: &ServiceHash) -> Option<&StoredSegment>
         ensures { option_copied result ≡ map.get self.now.segments hash.now }
     {
         self.segments.get(hash)
     }
 
-    /// Where the row stands, or would stand.
+    /// Returns the place of the row, or where the row would be.
     pub fn row_place(&self, hash: &ServiceHash) -> Place
         ensures { result ≡ place_in self.now.rows hash.now }
     {
         self.rows.place_of(hash)
     }
 
-    /// The row at its place.
+    /// Returns the row at its place.
     pub fn row_at(&self, hash: &ServiceHash, place: Place) -> Option<&StoredRow>
         requires { place ≡ place_in self.now.rows hash.now }
         ensures { option_copied result ≡ map.get self.now.rows hash.now }
@@ -247,28 +247,28 @@ impl Services {
         self.rows.get_at(hash, place)
     }
 
-    /// What is written under the hash.
+    /// Returns the row that is written under the hash.
     pub fn row(&self, hash: &ServiceHash) -> Option<&StoredRow>
         ensures { option_copied result ≡ map.get self.now.rows hash.now }
     {
         self.rows.get(hash)
     }
 
-    /// Where the segment stands, or would stand.
+    /// Returns the place of the segment, or where the segment would be.
     pub fn segment_place(&self, hash: &ServiceHash) -> Place
         ensures { result ≡ place_in self.now.segments hash.now }
     {
         self.segments.place_of(hash)
     }
 
-    /// Where the participant is with the service.
+    /// Returns the phase of the participant with the service, and its place.
     pub fn position(&self, participant: Participant, hash: &ServiceHash) -> Position
         ensures { result ≡ position_in self.now.phases (participant, hash.now) }
     {
         position_of(&self.phases, &(participant, *hash))
     }
 
-    /// Whether there is a segment that the description fits.
+    /// Returns true if there is a segment that the description fits.
     pub fn has_segment_for(&self, hash: &ServiceHash, description: &StaticConfig) -> bool
         ensures { result ≡ segment_fits hash.now (map.get self.now.segments hash.now) description.now }
     {
@@ -278,7 +278,7 @@ impl Services {
         }
     }
 
-    /// Why the segment at its place isn't opened.
+    /// Returns the reason why the segment at its place isn't opened, if there is one.
     pub fn open_refusal(
         &self,
         hash: &ServiceHash,
@@ -295,7 +295,7 @@ impl Services {
         }
     }
 
-    /// Reads what is published under the number.
+    /// Reads the description that is published under the number.
     pub fn read(
         &mut self,
         participant: Participant,
@@ -318,7 +318,7 @@ impl Services {
         Ok(true)
     }
 
-    /// Locks what has no row, whose place was found.
+    /// Locks a service that has no row. The row's place was found.
     pub fn lock<R: Recorder>(
         &mut self,
         recorder: &mut R,
@@ -530,7 +530,7 @@ impl Services {
         }
     }
 
-    /// Leaves once, and tells what is left, or `None` where it is forbidden. Takes no memory.
+    /// Leaves once, and returns what is left, or `None` if it is forbidden. Takes no memory.
     pub fn leave<R: Recorder>(
         &mut self,
         recorder: &mut R,

@@ -15,11 +15,11 @@ use iceoryx2_world::batches::Act;
 use iceoryx2_world::world::Participant;
 use std::alloc::AllocError;
 
-/// Each answers true where the step was allowed and has had its effect, and false where it is
-/// forbidden. `AllocError` comes only where it was allowed and found no memory. With false and with
+/// Each function answers true if the step was allowed and has had its effect, and false if it is
+/// forbidden. `AllocError` comes only if the step was allowed and found no memory. With false and with
 /// `AllocError` nothing has changed.
 impl Services {
-    /// The step that the act says.
+    /// Takes the step that the act says.
     pub fn take(
         &mut self,
         participant: Participant,
@@ -58,7 +58,7 @@ impl Services {
         }
     }
 
-    /// Reads what is there, where it is published.
+    /// Reads the description, if one is published.
     fn take_read(
         &mut self,
         participant: Participant,
@@ -75,7 +75,7 @@ impl Services {
         self.read(participant, hash, number)
     }
 
-    /// Locks what has no row.
+    /// Locks a service that has no row.
     fn take_lock(
         &mut self,
         participant: Participant,
@@ -90,7 +90,7 @@ impl Services {
         self.lock(&mut Unrecorded, participant, hash, row)
     }
 
-    /// Publishes what fits the segment.
+    /// Publishes a description that fits the segment.
     fn take_publish(
         &mut self,
         participant: Participant,

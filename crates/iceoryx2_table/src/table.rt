@@ -20,8 +20,8 @@ use iceoryx2_world::listing::Entry;
 use std::alloc::{AllocError, Global};
 use std::marker::Model;
 
-/// A storage within one process, over what keeps a world. Steps of peers may wait at it in batches: before each of the
-/// twelve accesses the next batch runs, step by step.
+/// A storage within one process, over any type that keeps a world. Steps of peers may wait at it in
+/// batches. Before each of the twelve accesses the next batch runs, step by step.
 pub struct TableOver<W: OwnParts> {
     world: W,
     // the batches, the next one last, so that none is moved when it runs
@@ -29,9 +29,9 @@ pub struct TableOver<W: OwnParts> {
     skipped: u64,
 }
 
-/// A storage within one process: what stands for each service, where each participant is with
-/// it, the nodes' tags and tickets, and a counter for numbers. Steps of peers may wait at it in
-/// batches: before each of the twelve accesses the next batch runs, step by step.
+/// A storage within one process. It keeps what there is of each service, the phase of each participant
+/// with it, the nodes' tags and tickets, and a counter for numbers. Steps of peers may wait at it in
+/// batches. Before each of the twelve accesses the next batch runs, step by step.
 pub type Table = TableOver<StoredWorld>;
 
 // Written out, so that a proof of what lets one go doesn't take its fields apart.
@@ -62,7 +62,7 @@ impl<W: OwnParts> Model for TableOver<W> {
 }
 
 impl<W: OwnParts> TableOver<W> {
-    /// An empty table whose first number is 0, at which nothing waits. Takes no memory.
+    /// Returns an empty table whose first number is 0. Nothing waits at it. Takes no memory.
     #[tactic(auto, using(iceoryx2_world::proofs::agreement::Empty::empty_agrees))]
     pub fn new(alloc: Global) -> Self
         ensures state { result ≡ record { world = empty_world 0; waiting = []; skipped = 0 } }
@@ -71,7 +71,7 @@ impl<W: OwnParts> TableOver<W> {
         TableOver::starting_at(alloc, 0)
     }
 
-    /// An empty table with its counter's first value, at which nothing waits. At `u64::MAX` it hands
+    /// Returns an empty table with the counter's first value. Nothing waits at it. At `u64::MAX` it hands
     /// out no number. Takes no memory.
     pub fn starting_at(alloc: Global, counter: u64) -> Self
         ensures state { result ≡ record { world = empty_world counter; waiting = []; skipped = 0 } }
@@ -84,8 +84,7 @@ impl<W: OwnParts> TableOver<W> {
         }
     }
 
-    /// Puts these batches in the place of those that wait, the first of them to run next. Takes no
-    /// memory.
+    /// Replaces the batches that wait by these, the first of which runs next. Takes no memory.
     pub fn schedule(&mut self, batches: Vec<Vec<Step>>)
         ensures { self.new ≡ record self.old { waiting = batch_items batches.items } }
     {
@@ -94,14 +93,15 @@ impl<W: OwnParts> TableOver<W> {
         self.waiting = batches;
     }
 
-    /// How many batches wait.
+    /// Returns the number of batches that wait.
     pub fn pending(&self) -> usize
         ensures { result ≡ length self.now.waiting }
     {
         self.waiting.len()
     }
 
-    /// How many steps of batches were allowed and found no memory. It stops at `u64::MAX`.
+    /// Returns the number of steps of batches that were allowed and found no memory. The count stops at
+    /// `u64::MAX`.
     pub fn skipped(&self) -> u64
         ensures { result ≡ self.now.skipped }
     {
@@ -130,28 +130,29 @@ impl<W: OwnParts> TableOver<W> {
         }
     }
 
-    /// Each service with a row or a segment, in the order of the hashes' bytes.
+    /// Returns each service with a row or a segment, in the order of the hashes' bytes.
     pub fn list(&self) -> Result<Vec<Entry>, AllocError>
         ensures { IfOk result (λ entries. Lists self.now.world entries.items) }
     {
         self.world.list()
     }
 
-    /// Whether the node has a tag for the service.
+    /// Returns true if the node has a tag for the service.
     pub fn has_tag(&self, node: u64, hash: &ServiceHash) -> bool
         ensures { result ≡ tag_of self.now.world node hash.now }
     {
         self.world.has_tag(node, hash)
     }
 
-    /// How many tickets the node has for the service. It goes through all tickets, and takes no memory.
+    /// Returns the number of tickets that the node has for the service. Goes through all tickets, and
+    /// takes no memory.
     pub fn tickets(&self, node: u64, hash: &ServiceHash) -> u64
         ensures { result ≡ ticket_count self.now.world.tickets node hash.now }
     {
         self.world.tickets(node, hash)
     }
 
-    /// The next number or ticket.
+    /// Returns the next number or ticket.
     pub fn counter(&self) -> u64
         ensures { result ≡ self.now.world.counter }
     {

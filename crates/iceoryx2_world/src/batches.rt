@@ -1,25 +1,27 @@
-//! What peers do before a node's accesses.
+//! The steps that peers take before a node's accesses.
 
 use iceoryx2_description::description::{ServiceHash, StaticConfig};
 
-/// What a participant may do at a service.
+/// An act that a participant may do at a service.
 #[derive(Debug, Drop, PartialEq, Eq)]
 pub enum Act {
-    /// It reads what is published.
+    /// The participant reads the published description.
     Read,
-    /// It begins to create the service.
+    /// The participant begins to create the service.
     Lock,
-    /// It takes the segment away, as who creates the service or was the last one to leave it.
+    /// The participant removes the segment, as the one that creates the service or was the last one to
+    /// leave it.
     RemoveSegment,
-    /// It takes the row away, as who creates the service or was the last one to leave it.
+    /// The participant removes the row, as the one that creates the service or was the last one to leave
+    /// it.
     RemoveDescription,
-    /// It makes the segment, for 1 or more nodes.
+    /// The participant makes the segment, for 1 or more nodes.
     Make { max_nodes: u64 },
-    /// It publishes what it creates, and is registered.
+    /// The participant publishes the service that it creates, and is registered.
     Publish(StaticConfig),
-    /// It is registered, once more where it is already.
+    /// The participant is registered, once more if it is registered already.
     Join,
-    /// It is registered once less.
+    /// The participant is registered once less.
     Leave,
 }
 

@@ -1,5 +1,5 @@
-//! What is true of every world of a table, whatever its nodes do and whatever steps peers take, and of a
-//! table at which batches of these steps wait.
+//! Laws that are true of every world of a table, whatever its nodes do and whatever steps peers take, and
+//! of a table at which batches of these steps wait.
 
 ghost use Rattle.std.specs.Prelude.{◌≡◌, ◌↔◌, ℕ, ◌≤◌, Bool, List, Option, Some};
 ghost use Rattle.iceoryx2_description.specs.declared.description.ServiceHash.{ServiceHash};
@@ -30,9 +30,9 @@ ghost use Rattle.iceoryx2_world.specs.Laws.{OwnPartIsAccess, TakesBatchesOff, Co
 ghost use Rattle.iceoryx2_world.specs.declared.batches.Step.{Step};
 ghost use Rattle.iceoryx2_world.specs.Tables.{TableState};
 
-/// Steps, of anyone: each is one of the fourteen, and what it makes of a world that agrees is later and agrees
-/// again, but for the tickets of nodes. A world agrees where at each service its row, its segment and the phases
-/// fit one another, and each node has as many tickets as its phases count.
+/// Steps, of anyone: each is one of the fourteen. It turns a world that agrees into a later one that
+/// agrees again, except for the tickets of nodes. A world agrees if at each service its row, its segment
+/// and the phases fit one another, and each node has as many tickets as its phases count.
 pub fn laws_of_steps()
     // A world in which nothing is there agrees, wherever its counter begins.
     ensures empty { (c : ℕ) → Agrees (empty_world c) }
@@ -50,9 +50,9 @@ pub fn laws_of_steps()
     ensures later { (u v w : World) → StaysLater u v w }
 {}
 
-/// Accesses of own nodes, whatever others do before each of them. Between two of these anything may happen that
-/// keeps the agreement and what own nodes have (`Rely`), as all that others do. An access after it keeps
-/// the agreement.
+/// Accesses of own nodes, whatever others do before each of them. Anything may happen between two of
+/// these accesses that keeps the agreement and the things of own nodes (`Rely`), as all steps of others
+/// do. The next access then keeps the agreement.
 pub fn laws_of_accesses()
     // Peers, and nodes that aren't one's own, keep all that own nodes rely on, whatever they do and in any order. So an
     // access after what others do is one under interference, and one that may be refused is one that may be there.
@@ -81,7 +81,7 @@ pub fn laws_of_accesses()
     ensures spent { (own : ℕ → Bool) (w v : World) (l : Letter) (h : ServiceHash) (n : ℕ) → StaysSpent own w l v h n }
 {}
 
-/// Standing factories: which stand, which accesses leave them so, and what gives one.
+/// Standing factories: which of them stand, which accesses leave them so, and which access gives one.
 pub fn laws_of_standing()
     // Each ticket is one of a factory that stands.
     ensures ticket { EachTicketStands }
@@ -126,8 +126,9 @@ pub fn laws_of_counts()
     ensures releasing { ReleasingCounts }
 {}
 
-/// What a node's own part of an access answers and changes stands twice: as functions that make its
-/// tests in their order, and as a relation with one line for each line of the table. They are one.
+/// A node's own part of an access, its answer and its changes, is written twice: as functions that make
+/// its tests in their order, and as a relation with one line for each line of the table. Both are the
+/// same.
 pub fn accesses()
     // What the tests come to is a line of the table.
     ensures listed { (w v : World) (l : Letter) → IsOwnPart w l v → IsOwnCase w l v }
@@ -136,9 +137,9 @@ pub fn accesses()
     ensures each_listed { (w v : World) (l : Letter) → IsOwnCase w l v → IsOwnPart w l v }
 {}
 
-/// What waits at a table is steps of peers and nothing else: its accesses are accesses of its
-/// world, and nodes' own parts alone where nothing waits. So what is true of runs of these is true
-/// of runs of a table with batches: a batch and each access keep the agreement and give a later world.
+/// Only steps of peers wait at a table. Its accesses are accesses of its world, and nodes' own parts
+/// alone if nothing waits. So what is true of runs of these is true of runs of a table with batches: a
+/// batch and each access keep the agreement and give a later world.
 pub fn batches()
     // A batch is steps of peers: others take them, whichever nodes are one's own.
     ensures batch { (own : ℕ → Bool) (s t : World × ℕ) (batch : List Step) → BatchIsOfOthers own s t batch }

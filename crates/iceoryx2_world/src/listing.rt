@@ -1,9 +1,9 @@
-//! What a table lists.
+//! The list of a table.
 
 use crate::world::Bytes;
 use iceoryx2_description::description::ServiceHash;
 
-/// What is written under a hash, as it is listed.
+/// The row under a hash, as it is listed.
 #[derive(Debug, Drop, PartialEq, Eq)]
 pub enum ListedRow {
     Absent,
@@ -17,15 +17,15 @@ pub enum ListedRow {
 #[derive(Clone, Copy, Debug, PartialEq, Eq)]
 pub struct ListedSegment {
     pub number: u64,
-    /// How many participants it takes.
+    /// The number of participants that the segment takes.
     pub max_nodes: u64,
-    /// How many it has.
+    /// The number of participants that the segment has.
     pub participants: u64,
-    /// Whether its last participant has left.
+    /// True if the last participant has left the segment.
     pub marked: bool,
 }
 
-/// What there is of one service.
+/// The row and the segment of one service, as they are listed.
 #[derive(Debug, Drop, PartialEq, Eq)]
 pub struct Entry {
     pub hash: ServiceHash,

@@ -1,4 +1,4 @@
-//! What a table holds of each service and of each participant.
+//! The content that a table holds of each service and of each participant.
 
 ghost use Rattle.std.specs.Prelude.{◌≡◌, ℕ, List, IfOk};
 
@@ -6,30 +6,30 @@ use iceoryx2_description::description::ServiceHash;
 use std::alloc::AllocError;
 use std::marker::Model;
 
-/// Who acts. Node 7 and peer 7 are different participants.
+/// A participant that acts. Node 7 and peer 7 are different participants.
 #[derive(Clone, Copy, Debug, PartialEq, Eq, PartialOrd, Ord)]
 pub enum Participant {
-    /// One whose calls come through the table's accesses.
+    /// A participant whose calls come through the table's accesses.
     Node(u64),
-    /// One that shares the table's services without it.
+    /// A participant that shares the table's services without the table.
     Peer(u64),
 }
 
-/// Where a participant is with a service.
+/// The phase of a participant with a service.
 #[derive(Clone, Copy, Debug, PartialEq, Eq)]
 pub enum Phase {
     Idle,
-    /// It has read the description of this number.
+    /// The participant has read the description of this number.
     Read(u64),
-    /// It holds the lock of this number.
+    /// The participant holds the lock of this number.
     Locked(u64),
-    /// It holds the lock of this number, and its segment.
+    /// The participant holds the lock of this number, and its segment.
     Made(u64),
-    /// It is registered at this number, so many times.
+    /// The participant is registered at this number, so many times.
     Joined(u64, u64),
-    /// It was the last one to leave this number, and has to remove what is left.
+    /// The participant was the last one to leave this number, and has to remove what is left.
     Leaving(u64),
-    /// It was the last one to leave this number, and has removed the segment.
+    /// The participant was the last one to leave this number, and has removed the segment.
     Cleared(u64),
 }
 
@@ -60,7 +60,7 @@ impl Bytes {
         &self.bytes
     }
 
-    /// A copy of them.
+    /// Returns a copy of the bytes.
     pub fn copy(&self) -> Result<Vec<u8>, AllocError>
         ensures { IfOk result (λ copy. copy.items ≡ self.now) }
     {
@@ -89,7 +89,7 @@ impl Eq for Bytes {
     ghost laws = { Prim.search (comparing, rules) };
 }
 
-/// What is written under a hash.
+/// The row that is written under a hash.
 #[derive(Drop)]
 pub enum Row {
     /// Somebody is creating the service of this number.
@@ -98,7 +98,7 @@ pub enum Row {
     Published(u64, Bytes),
 }
 
-/// Whose a ticket is, and for which service and number.
+/// The node of a ticket, with the service and the number that the ticket is for.
 #[derive(Clone, Copy, Debug, PartialEq, Eq)]
 pub struct Ticket {
     pub node: u64,

@@ -1,7 +1,8 @@
 //! Reading a file without the right to write.
 //!
-//! So is one read that has the log's path no more: it was removed or renamed, or another file was renamed over it.
-//! Nobody who opens the log finds it, so nothing is appended to it, and nothing of it is cut off.
+//! A file is read like this if it no longer has the log's path: it was removed or renamed, or another
+//! file was renamed over it. Nobody who opens the log finds that file, so nothing is appended to it, and
+//! nothing of it is cut off.
 
 ghost use Rattle.std.specs.Prelude.{◌≡◌, ◌≤◌, Ok, Err, IfOk, IfSome, length, nat_lt};
 ghost use Rattle.iceoryx2_log.specs.Log.{is_shown};
@@ -30,8 +31,8 @@ use std::fs::{self, File};
 use std::io::ErrorKind;
 use std::rt::Files;
 
-/// Whether the file of this number surely hasn't the path: nothing has it, or something else. Where the system refuses
-/// the look nobody knows.
+/// Returns true if the file of this number surely doesn't have the path: nothing has the path, or something
+/// else has it. If the system refuses the look, nobody knows.
 pub(super) fn is_away(rt: &impl Files, path: &str, number: FileNumber) -> bool {
     match fs::symlink_metadata(rt, path) {
         Ok(metadata) => number_of(&metadata) != number,
@@ -42,7 +43,8 @@ pub(super) fn is_away(rt: &impl Files, path: &str, number: FileNumber) -> bool {
     }
 }
 
-/// The mark of so many bytes at the position. `Damaged` where it isn't the last entry, or stands within a snapshot.
+/// Returns the mark of so many bytes at the position. `Damaged` if it isn't the last entry, or is within
+/// a snapshot.
 fn mark_at(cursor: &Cursor, count: usize, header: &Header) -> Result<Found, FileFault>
     ensures mark { IfOk result (λ found. found ≡ there.Mark count) }
     ensures last { IfOk result (λ found. (length cursor.now.ahead ≡ count)
@@ -56,8 +58,8 @@ fn mark_at(cursor: &Cursor, count: usize, header: &Header) -> Result<Found, File
     Ok(Found::Mark { count })
 }
 
-/// What stands at the position of a file to which nothing is written. What is torn at its end is no entry, and stays
-/// there. A mark comes only as the last entry, behind the snapshot.
+/// Returns what is at the position of a file to which nothing is written. Torn bytes at the file's end
+/// are no entry, and stay there. A mark comes only as the last entry, behind the snapshot.
 pub(super) fn unwritten<M: Medium>(
     alloc: Global,
     medium: &mut M,
@@ -103,8 +105,8 @@ pub(super) fn unwritten<M: Medium>(
     }
 }
 
-/// The entry at the position of a file that has the path no more. `Removed` where no more stands there, or what is
-/// torn, `Moved` where the last entry is a mark, and `Damaged` as in any file.
+/// Returns the entry at the position of a file that no longer has the path. `Removed` if no more bytes
+/// follow, or torn ones. `Moved` if the last entry is a mark. `Damaged` as in any file.
 pub(super) fn next_away(
     alloc: Global,
     file: &File,

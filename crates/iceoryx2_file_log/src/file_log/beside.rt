@@ -30,8 +30,8 @@ fn access_of(file: &File) -> io::Result<Access> {
     })
 }
 
-/// Makes an empty file, in place of what a process left there that died. A symbolic link is removed too, and never
-/// followed.
+/// Makes an empty file, instead of a file that a process left there when it died. A symbolic link is
+/// removed too, and never followed.
 fn create(rt: &impl Files<File = File>, beside: &str) -> io::Result<File> {
     if let Err(error) = fs::remove_file(rt, beside) {
         if error.kind() != ErrorKind::NotFound {
@@ -46,8 +46,8 @@ fn create(rt: &impl Files<File = File>, beside: &str) -> io::Result<File> {
         .open(rt, beside)
 }
 
-/// Gives the file the mode of the log's own, and these bytes, and synchronizes it. An `Err` where somebody could not
-/// use it who can use the own one.
+/// Gives the file the mode of the log's own file, and these bytes, and synchronizes it. An `Err` if
+/// somebody who can use the own file could not use this one.
 fn fill(file: &File, own: &File, bytes: &[u8]) -> io::Result<()> {
     if !keeps_access(access_of(own)?, access_of(file)?) {
         return Err(ErrorKind::PermissionDenied.into());
@@ -57,7 +57,7 @@ fn fill(file: &File, own: &File, bytes: &[u8]) -> io::Result<()> {
     file.sync_all()
 }
 
-/// Fills the file, locks it, and reads it back. Gives its number.
+/// Fills the file, locks it, and reads it back. Returns its number.
 fn prepare(
     clock: &impl Clock,
     file: &File,
@@ -76,7 +76,7 @@ fn prepare(
     number_in(file)
 }
 
-/// By which number the system knows the file.
+/// Returns the number by which the system knows the file.
 pub(super) fn number_in(file: &File) -> Result<FileNumber, FileFault>
     ensures { IfErr result IsOfFile }
 {
@@ -93,8 +93,8 @@ pub(super) struct NewFile {
     pub number: FileNumber,
 }
 
-/// Makes the file of this path, of these bytes and of the own one's mode, synchronized, locked and read back. Nothing
-/// is left where that is refused.
+/// Makes the file of this path, with these bytes and the mode of the own file, synchronized, locked and
+/// read back. If that is refused, nothing is left.
 pub(super) fn make_beside<R: Files<File = File> + Clock>(
     rt: &R,
     beside: &str,
@@ -120,14 +120,14 @@ pub(super) fn make_beside<R: Files<File = File> + Clock>(
 /// The file that has a log's path now, held.
 #[derive(Drop)]
 pub(super) struct Located {
-    /// `None` where it is the own one.
+    /// `None` if it is the own file.
     pub file: Option<File>,
     pub number: FileNumber,
     pub header: Header,
     pub file_length: u64,
 }
 
-/// Locks the file, unless it is the own one, which is locked.
+/// Locks the file, unless it is the own file, which is locked.
 fn locked(
     clock: &impl Clock,
     file: File,
@@ -141,7 +141,8 @@ fn locked(
     Ok(Some(file))
 }
 
-/// How long the file is where there is one, and else the own one, at least as long as a header.
+/// Returns the length of the file if there is one, else of the own file. It is at least as long as a
+/// header.
 fn length_of(file: &Option<File>, own: &File) -> Result<u64, FileFault>
     ensures { IfOk result (λ file_length. HEADER_LENGTH ≤ file_length) }
 {
@@ -151,8 +152,8 @@ fn length_of(file: &Option<File>, own: &File) -> Result<u64, FileFault>
     }
 }
 
-/// Opens the file that has the path now, of the log of this name, and locks it. `AnotherLog` where it is of another
-/// one, and `Removed` where nothing has the path.
+/// Opens the file that has the path now, of the log of this name, and locks it. `AnotherLog` if the file
+/// is of another log. `Removed` if nothing has the path.
 pub(super) fn locate<R: Files<File = File> + Clock>(
     rt: &R,
     path: &str,

@@ -29,12 +29,12 @@ use std::time::Clock;
 pub(super) struct NewPlace {
     pub file: File,
     pub number: FileNumber,
-    /// Its path.
+    /// The path of the file.
     pub beside: String,
     pub snapshot: Snapshot,
 }
 
-/// Why a compaction is declined, and from which length one is tried again.
+/// The reason why a compaction is declined, and the length from which one is tried again.
 #[derive(Clone, Copy)]
 pub(super) struct Declined {
     pub why: FileFault,
@@ -42,7 +42,7 @@ pub(super) struct Declined {
 }
 
 impl<R: Files<File = File> + Clock + AllocGlobal> FileLog<R> {
-    /// The file that has the path now, held. The handle is held itself.
+    /// Returns the file that has the path now, held. The handle itself is held.
     pub(super) fn located(&self) -> Result<Located, FileFault>
         ensures found { IfOk result (λ found. (found.header.name ≡ self.now.header.name)
             × (HEADER_LENGTH ≤ found.file_length)) }
@@ -62,7 +62,7 @@ impl<R: Files<File = File> + Clock + AllocGlobal> FileLog<R> {
         )
     }
 
-    /// Stands at this place of the file of this header and length, which is held.
+    /// Stands at this position of the file with this header and length, which is held.
     fn stand(&mut self, position: u64, header: Header, file_length: u64)
         requires held { self.old.cursor.state ≡ state.Held }
         requires within { position ≤ file_length }
@@ -75,7 +75,7 @@ impl<R: Files<File = File> + Clock + AllocGlobal> FileLog<R> {
         self.is_away = false;
     }
 
-    /// Goes to the file that was located, and gives up the own one, where it is another.
+    /// Goes to the file that was located, and gives up the own file, if that is another one.
     pub(super) fn go_to(&mut self, found: Located)
         requires held { self.old.cursor.state ≡ state.Held }
         requires length { HEADER_LENGTH ≤ found.file_length }
@@ -94,8 +94,8 @@ impl<R: Files<File = File> + Clock + AllocGlobal> FileLog<R> {
         self.stand(HEADER_LENGTH as u64, header, file_length);
     }
 
-    /// Whether another file may take the place of the own one. `Moved` where this hasn't the path, or has another name
-    /// too.
+    /// Checks that another file may replace the own file. `Moved` if the own file doesn't have the path, or has
+    /// another name too.
     fn may_be_left(&self) -> Result<(), FileFault>
         ensures { IfErr result (λ why. why ≢ fault.NothingSaved) }
     {
@@ -105,7 +105,7 @@ impl<R: Files<File = File> + Clock + AllocGlobal> FileLog<R> {
         Err(FileFault::Moved)
     }
 
-    /// The file of a compaction to these entries.
+    /// Returns the file of a compaction to these entries.
     fn wanted(&self, entries: &[Entry]) -> Result<Snapshot, FileFault>
         ensures ok { IfOk result (λ file. IsSnapshot self.now.header.name entries.now file.header file.bytes.items) }
         ensures held { OnOk result (self.now.cursor.state ≡ state.Held) }
@@ -123,7 +123,7 @@ impl<R: Files<File = File> + Clock + AllocGlobal> FileLog<R> {
         snapshot_of(self.rt.alloc(), self.header.name, entries)
     }
 
-    /// Makes a file of these bytes beside the own one, and gives it with its path.
+    /// Makes a file of these bytes beside the own file, and returns it with its path.
     fn written(&self, bytes: &[u8]) -> Result<(NewFile, String), FileFault>
         ensures { IfErr result (λ why. why ≢ fault.NothingSaved) }
     {
@@ -137,7 +137,7 @@ impl<R: Files<File = File> + Clock + AllocGlobal> FileLog<R> {
         }
     }
 
-    /// Makes the file of a compaction, where the own one is worth it.
+    /// Makes the file of a compaction, if the own file is worth it.
     fn made(&self, snapshot: Snapshot) -> Result<NewPlace, Declined>
         ensures ok { IfOk result (λ place. (place.snapshot ≡ snapshot)
             × IsWorth self.now.cursor.file_length (length snapshot.bytes.items)) }
@@ -184,8 +184,8 @@ impl<R: Files<File = File> + Clock + AllocGlobal> FileLog<R> {
         }
     }
 
-    /// Gives the path to the file beside, which has this number, and the mark to the own one. `Moved` where the own one
-    /// hasn't the path by now.
+    /// Gives the path to the file beside, which has this number, and the mark to the own file. `Moved` if
+    /// the own file no longer has the path.
     fn give_way(&self, beside: &str, new: FileNumber) -> Result<(), FileFault> {
         self.may_be_left()?;
         let mark = mark_form(self.rt.alloc())?;
@@ -200,7 +200,8 @@ impl<R: Files<File = File> + Clock + AllocGlobal> FileLog<R> {
         move_log(&self.rt, &to, &mark, self.options.synchronizes)
     }
 
-    /// Moves the log to the new file, and stands at its end. Where that is refused the handle stays where it is.
+    /// Moves the log to the new file, and stands at its end. If that is refused, the handle stays where
+    /// it is.
     pub(super) fn move_to(&mut self, place: NewPlace) -> Result<(), LogError>
         requires held { self.old.cursor.state ≡ state.Held }
         ensures ok { OnOk result (self.new ≡ ended place.snapshot.header place.snapshot.bytes.items self.old) }

@@ -1,9 +1,11 @@
-//! Reading what stood in the file when it was measured, though the log isn't held. Nothing is written meanwhile.
+//! Reading the entries that stood in the file when it was measured, though the log isn't held. Nothing is
+//! written meanwhile.
 //!
-//! Others may append behind the measured end, which changes nothing before it. Only if a writer died, and left a torn
-//! entry or a mark before that end, may others cut that off and write over it. A reader can meet both halves then: so
-//! damage that is found without the lock is told, and the handle stays of use. Such a reader may also take over an
-//! entry that its writer takes back, because it couldn't be synchronized. No proof excludes that.
+//! Other handles may append behind the measured end, which changes nothing before it. They may cut off
+//! bytes before that end, and write over them, only if a writer died and left a torn entry or a mark
+//! there. A reader can then meet both halves. So damage that is found without the lock is told, and the
+//! handle stays usable. Such a reader may also take over an entry that its writer takes back, because the
+//! entry couldn't be synchronized. No proof excludes that.
 
 ghost use Rattle.std.specs.Prelude.{◌≡◌, ◌≤◌, Err, IfOk, IfErr, IfSome, OnOk, OnErr, true, false, nat_lt};
 ghost use Rattle.iceoryx2_log.specs.Log.{is_shown};
@@ -32,9 +34,9 @@ use std::fs::File;
 use std::rt::Files;
 use std::time::{Clock, Duration};
 
-/// The entry at the position of a file that was measured, or `None` where no more stands there, or what is torn, or a
-/// mark though the file has the path: who wrote it has died before another file took the path. `Moved` where the last
-/// entry is a mark, and another file has the path.
+/// Returns the entry at the position of a file that was measured. `None` if no more bytes follow, if they
+/// are torn, or if a mark follows though the file has the path: its writer died before another file took
+/// the path. `Moved` if the last entry is a mark, and another file has the path.
 fn next_unheld<R: Files + AllocGlobal>(
     rt: &R,
     path: &str,
@@ -61,8 +63,8 @@ fn next_unheld<R: Files + AllocGlobal>(
     }
 }
 
-/// Opens the file that has the path now, of the log of this name, and measures it under its lock, of which it lets go.
-/// `AnotherLog` where it is of another log, and `Removed` where nothing has the path.
+/// Opens the file that has the path now, of the log of this name, and measures it under its lock. Then
+/// lets go of the lock. `AnotherLog` if the file is of another log. `Removed` if nothing has the path.
 fn measured_there<R: Files<File = File> + Clock>(
     rt: &R,
     path: &str,
@@ -83,7 +85,7 @@ fn measured_there<R: Files<File = File> + Clock>(
 }
 
 impl<R: Files + Clock> FileLog<R> {
-    /// Measures the file under its lock, and looks meanwhile whether it has the path.
+    /// Measures the file under its lock, and meanwhile looks whether it has the path.
     pub(super) fn try_look(&mut self) -> Result<(), FileFault>
         ensures ok { OnOk result (LooksAt self.old self.new) }
         ensures was_free { OnOk result (self.old.is_locked ≡ false) }
@@ -105,8 +107,8 @@ impl<R: Files + Clock> FileLog<R> {
 }
 
 impl<R: Files + AllocGlobal> FileLog<R> {
-    /// The next entry of what stood in the file when it was measured. Where the file hadn't the path then, `Removed`
-    /// comes in place of its end.
+    /// Returns the next entry that stood in the file when it was measured. If the file didn't have the path
+    /// then, `Removed` comes instead of the file's end.
     pub(super) fn next_looked(&mut self) -> Result<Option<Entry>, FileFault>
         ensures shows { IfOk result (λ found. ShowsUncut found self.old.cursor self.new.cursor) }
         ensures no_mark { IfOk result IsNoMark }
@@ -131,7 +133,7 @@ impl<R: Files + AllocGlobal> FileLog<R> {
         Ok(found)
     }
 
-    /// The same as a log answers it.
+    /// Returns the same as a log answers it.
     pub(super) fn next_looking(&mut self) -> Result<Option<Entry>, LogError>
         ensures looks { LooksNext result self.old self.new }
         ensures no_mark { IfOk result IsNoMark }
@@ -150,7 +152,8 @@ impl<R: Files + AllocGlobal> FileLog<R> {
 }
 
 impl<R: Files<File = File> + Clock + AllocGlobal> FileLog<R> {
-    /// Goes to the file that has the path now, and looks at that. Gives the number with which the counter begins there.
+    /// Goes to the file that has the path now, and looks at it. Returns the number with which the counter
+    /// begins there.
     pub(super) fn look_elsewhere(&mut self) -> Result<u64, FileFault>
         requires { self.old.looks ≡ true }
         ensures ok { IfOk result (λ counter. LooksElsewhere counter self.old self.new) }
@@ -180,7 +183,7 @@ impl<R: Files<File = File> + Clock + AllocGlobal> FileLog<R> {
         Ok(header.counter)
     }
 
-    /// The same as a log answers it.
+    /// Returns the same as a log answers it.
     pub(super) fn rejoin_looking(&mut self) -> Result<u64, LogError>
         requires { self.old.looks ≡ true }
         ensures ok { IfOk result (λ counter. LooksElsewhere counter self.old self.new) }

@@ -1,4 +1,5 @@
-//! The mark at the end of a file from which a log has moved: cut off where it hasn't, and written.
+//! The mark at the end of a file from which a log has moved: writing it, and cutting it off if the log
+//! hasn't moved.
 
 ghost use Rattle.std.specs.Prelude.{◌≡◌, ◌≢◌, ◌≤◌, ◌⊎◌, ◌↔◌, None, Some, Ok, Err, IsOk, OnOk, OnErr, IfErr, IsTrue};
 ghost use Rattle.std.specs.Prelude.{length};
@@ -22,7 +23,8 @@ use std::fs::{self, File};
 use std::os::unix::fs::MetadataExt;
 use std::rt::Files;
 
-/// Whether the mark of this file is left of a move that was not made, since the file itself has the path.
+/// Returns true if the mark of this file is left of a move that was not made, since the file itself has
+/// the path.
 fn has_stayed(own: FileNumber, found: Option<FileNumber>) -> bool
     ensures { IsTrue result ↔ (found ≡ Some own) }
 {
@@ -32,7 +34,7 @@ fn has_stayed(own: FileNumber, found: Option<FileNumber>) -> bool
     }
 }
 
-/// Whether the file has the path.
+/// Returns whether the file has the path.
 pub(super) fn has_path(rt: &impl Files, path: &str, file: &File) -> Result<bool, FileFault>
     ensures { IfErr result IsOfFile }
 {
@@ -43,8 +45,8 @@ pub(super) fn has_path(rt: &impl Files, path: &str, file: &File) -> Result<bool,
     }
 }
 
-/// Whether the file has the path, and no other name. Another file may not take the path else: who removes or renames a
-/// log, or gives it a second name, doesn't mean it to come back.
+/// Returns whether the file has the path, and no other name. Otherwise another file may not take the
+/// path: anyone who removes or renames a log, or gives it a second name, doesn't mean it to come back.
 pub(super) fn is_alone(rt: &impl Files, path: &str, file: &File) -> Result<bool, FileFault>
     ensures { IfErr result IsOfFile }
 {
@@ -57,9 +59,9 @@ pub(super) fn is_alone(rt: &impl Files, path: &str, file: &File) -> Result<bool,
     }
 }
 
-/// Cuts off the mark of so many bytes at the position, where it is the last entry and the file has the path: who wrote
-/// it has died before the new file took the path. `Moved` where another file has the path, and `Damaged` where more
-/// follows, or it stands within a snapshot.
+/// Cuts off the mark of so many bytes at the position, if it is the last entry and the file has the path:
+/// its writer died before the new file took the path. `Moved` if another file has the path. `Damaged` if
+/// more bytes follow, or if the mark is within a snapshot.
 pub(super) fn cut_mark(
     rt: &impl Files,
     path: &str,
@@ -87,12 +89,12 @@ pub(super) fn cut_mark(
     cut_end(&mut LockedFile::new(file), cursor, synchronizes)
 }
 
-/// From which file a log moves, and to which.
+/// The file from which a log moves, and the file to which it moves.
 #[derive(Clone, Copy)]
 pub(super) struct Move<'a> {
     pub own_file: &'a File,
     pub own: FileNumber,
-    /// Where the own file ends.
+    /// The position where the own file ends.
     pub position: u64,
     /// The path of the new file, beside the own one.
     pub beside: &'a str,
@@ -101,8 +103,9 @@ pub(super) struct Move<'a> {
     pub path: &'a str,
 }
 
-/// What a rename has done that reports this error, by which file has the path then. It is done where the new one has
-/// it, and isn't where the own one has. `Unsure` where neither does, or that can't be looked up.
+/// Returns what a rename that reports this error has done, by the file that has the path then. The rename
+/// is done if the new file has the path, and isn't done if the own file has it. `Unsure` if neither has
+/// it, or if that can't be looked up.
 fn renamed_though(
     error: FileFault,
     found: Result<Option<FileNumber>, FileFault>,
@@ -127,8 +130,8 @@ fn renamed_though(
     }
 }
 
-/// Writes the mark at the end of the own file, and gives the path to the new one. `Unsure` where nobody knows whether
-/// it has it.
+/// Writes the mark at the end of the own file, and gives the path to the new one. `Unsure` if nobody
+/// knows whether the new file has the path.
 fn mark_and_rename(
     rt: &impl Files,
     to: &Move<'_>,
@@ -146,10 +149,10 @@ fn mark_and_rename(
     }
 }
 
-/// Moves a log: the own file gets the mark, and the new one gets the path, both or none. `Unsure` where nobody knows
-/// whether the new one has the path, where a mark could not be taken back, or where the options synchronize and that,
-/// or the path, may be lost with the power. As long as nobody knows it the mark stays: whoever finds it and the path
-/// goes to the new file, or cuts the mark off.
+/// Moves a log: the own file gets the mark, and the new file gets the path, both or none. `Unsure` if
+/// nobody knows whether the new file has the path, or if a mark could not be taken back. `Unsure` too if
+/// the options synchronize and that, or the path, may be lost in a power loss. As long as nobody knows
+/// it, the mark stays: anyone who finds it and the path goes to the new file, or cuts the mark off.
 pub(super) fn move_log(
     rt: &impl Files<File = File>,
     to: &Move<'_>,

@@ -1,7 +1,7 @@
 //! Reading an entry from left to right: each part gives its value and the bytes after it.
 //!
-//! What answers an `Option` gives `None` where the bytes don't begin with such a part. What copies bytes gives an `Err`
-//! where they do, and the copy found no memory.
+//! A function that answers an `Option` returns `None` if the bytes don't begin with such a part. A
+//! function that copies bytes returns an `Err` if they do, and there was no memory for the copy.
 
 ghost use Rattle.std.specs.Prelude.{◌≡◌, ◌<◌, ◌≤◌, ◌^◌, length, bytes_eq, IfOk, OnErr, IfSome, IsSome};
 ghost use Rattle.std.specs.Int.{w32, w64};
@@ -21,15 +21,15 @@ use std::alloc::{AllocError, Global};
 use std::error::Error;
 use std::fmt;
 
-/// Why bytes begin with no entry.
+/// The reason why no entry was read.
 #[derive(Clone, Copy, Debug, PartialEq, Eq)]
 pub enum EntryError {
-    /// They end within the header, or sooner than the header says.
+    /// The bytes end within the header, or sooner than the header says.
     CutShort,
-    /// The length and the same inverted don't fit, no body has this length, the sum is wrong, or the body is that of
-    /// no entry.
+    /// The length doesn't fit its inverted copy, no body has this length, the sum is wrong, or the body
+    /// is that of no entry.
     Malformed,
-    /// They begin with an entry, and there was no memory for it.
+    /// The bytes begin with an entry, and there was no memory for it.
     OutOfMemory,
 }
 
@@ -87,7 +87,7 @@ fn bytes_of(len: usize, bytes: &[u8]) -> Option<(&[u8], &[u8])>
     Some(bytes.split_at(len))
 }
 
-/// A operation that has no more numbers, where no bytes are left.
+/// Returns the operation, which has no more numbers, if no bytes are left.
 #[tactic(auto, unfolding(crate::specs::Reading::none_in))]
 fn none_of(operation: Operation, bytes: &[u8]) -> Option<Operation>
     ensures { IsPart (λ d. d) result (none_in operation bytes.now) }
@@ -143,7 +143,7 @@ fn release_of(bytes: &[u8]) -> Option<Operation>
     none_of(Operation::Release { ticket, number }, rest)
 }
 
-/// The operation of this kind, which is not `Publish`, and whose numbers are all of the bytes.
+/// Returns the operation of this kind, which is not `Publish`, if its numbers are all of the bytes.
 #[tactic(auto, unfolding(crate::specs::Reading::plain_operation_in))]
 fn plain_operation_of(kind: u8, bytes: &[u8]) -> Option<Operation>
     ensures { IsPart (λ d. d) result (plain_operation_in kind bytes.now) }
@@ -163,7 +163,7 @@ fn plain_operation_of(kind: u8, bytes: &[u8]) -> Option<Operation>
     }
 }
 
-/// A number, and the bytes of a description, which are the rest.
+/// Reads a number, and the bytes of a description, which are the rest.
 #[tactic(auto, unfolding(crate::specs::Reading::publish_in))]
 fn publish_of(alloc: Global, bytes: &[u8]) -> Result<Option<Operation>, AllocError>
     ensures read { IfOk result (λ found. IsPart (λ d. d) found (publish_in bytes.now)) }
@@ -179,7 +179,7 @@ fn publish_of(alloc: Global, bytes: &[u8]) -> Result<Option<Operation>, AllocErr
     }
 }
 
-/// The operation of this kind, whose numbers and bytes are all of the bytes.
+/// Returns the operation of this kind, if its numbers and bytes are all of the bytes.
 #[tactic(auto, unfolding(crate::specs::Reading::operation_in))]
 fn operation_of(alloc: Global, kind: u8, bytes: &[u8]) -> Result<Option<Operation>, AllocError>
     ensures read { IfOk result (λ found. IsPart (λ d. d) found (operation_in kind bytes.now)) }
@@ -211,7 +211,7 @@ fn hash_of(bytes: &[u8]) -> Option<(ServiceHash, &[u8])>
     Some((ServiceHash(hash), rest))
 }
 
-/// What stands before a operation's numbers: its kind, its node and its hash.
+/// Reads the parts before an operation's numbers: its kind, its node and its hash.
 #[tactic(auto, unfolding(crate::specs::Reading::front_at))]
 fn front_of(bytes: &[u8]) -> Option<(u8, u64, ServiceHash, &[u8])>
     ensures { IsPart (λ x. ((x.0, (x.1, x.2.0)), x.3.now)) result (front_at bytes.now) }
@@ -242,7 +242,7 @@ fn body_of(alloc: Global, bytes: &[u8]) -> Result<Option<Entry>, AllocError>
     }
 }
 
-/// The length of a body, where the same with its bits inverted stands behind it.
+/// Reads the length of a body, if the same length with its bits inverted follows it.
 #[tactic(auto, unfolding(crate::specs::Reading::header_at))]
 fn header_of(bytes: &[u8]) -> Option<(usize, &[u8])>
     ensures part { IsPart (λ x. (x.0, x.1.now)) result (header_at bytes.now) }
@@ -263,7 +263,7 @@ fn header_of(bytes: &[u8]) -> Option<(usize, &[u8])>
     Some((length, rest))
 }
 
-/// Whether the sum is that of the body.
+/// Returns true if the sum is that of the body.
 fn is_sum_of(sum: &[u8], body: &[u8]) -> bool
     requires { length body.now < 2 ^ 32 }
     ensures { result ≡ bytes_eq sum.now (sum_at body.now) }
@@ -296,7 +296,7 @@ fn sealed_of(bytes: &[u8]) -> Option<(&[u8], &[u8])>
     summed_of(length, rest)
 }
 
-/// Whether the bytes end before an entry does.
+/// Returns true if the bytes end before an entry does.
 #[tactic(auto, unfolding(crate::specs::Reading::is_cut_short, crate::specs::Reading::lacks_body))]
 fn ends_early(bytes: &[u8]) -> bool
     ensures { result ≡ is_cut_short bytes.now }

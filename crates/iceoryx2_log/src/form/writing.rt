@@ -12,10 +12,10 @@ use std::alloc::{AllocError, Global};
 use std::error::Error;
 use std::fmt;
 
-/// Why an entry was not written.
+/// The reason why an entry was not written.
 #[derive(Clone, Copy, Debug, PartialEq, Eq)]
 pub enum EncodeError {
-    /// Its body is longer than the longest.
+    /// The entry's body is longer than the longest.
     TooLong,
     /// There was no memory for the bytes.
     OutOfMemory,
@@ -51,7 +51,7 @@ fn put_number(out: &mut Vec<u8>, number: u64) -> Result<(), AllocError>
     out.extend_from_slice(&number.to_be_bytes())
 }
 
-/// The byte of a operation's kind.
+/// Returns the byte of an operation's kind.
 fn kind(operation: &Operation) -> u8
     ensures { result ≡ form.kind operation.now }
 {
@@ -70,7 +70,7 @@ fn kind(operation: &Operation) -> u8
     }
 }
 
-/// The operation's numbers in order, and a description's bytes.
+/// Writes the operation's numbers in order, and a description's bytes.
 fn put_details(out: &mut Vec<u8>, operation: &Operation) -> Result<(), AllocError>
     ensures { OnOk result (out.new.items ≡ out.old.items ++ form.details operation.now) }
 {
@@ -103,7 +103,7 @@ fn put_bytes(out: &mut Vec<u8>, number: u64, bytes: &[u8]) -> Result<(), AllocEr
     out.extend_from_slice(bytes)
 }
 
-/// The kind, the node, the hash, and the operation's details.
+/// Writes the kind, the node, the hash, and the operation's details.
 fn put_body(out: &mut Vec<u8>, entry: &Entry) -> Result<(), AllocError>
     ensures { OnOk result (out.new.items ≡ out.old.items ++ form.body entry.now) }
 {
@@ -113,7 +113,7 @@ fn put_body(out: &mut Vec<u8>, entry: &Entry) -> Result<(), AllocError>
     put_details(out, &entry.operation)
 }
 
-/// Whether a body with this operation is longer than the longest.
+/// Returns true if a body with this operation is longer than the longest.
 fn is_too_long(operation: &Operation) -> bool
     ensures { IsTrue result ↔ (MAX_BODY_LENGTH < MIN_BODY_LENGTH + length (form.details operation.now)) }
 {
@@ -196,7 +196,7 @@ pub fn sum_of(body: &[u8]) -> [u8; SUM_LENGTH]
     sum
 }
 
-/// The length, the same with its bits inverted, the sum, and the body.
+/// Writes the length, the same with its bits inverted, the sum, and the body.
 fn put_sealed(out: &mut Vec<u8>, body: &[u8]) -> Result<(), AllocError>
     requires { length body.now < 2 ^ 32 }
     ensures { OnOk result (out.new.items ≡ out.old.items ++ form.sealed body.now) }
@@ -208,8 +208,8 @@ fn put_sealed(out: &mut Vec<u8>, body: &[u8]) -> Result<(), AllocError>
     out.extend_from_slice(body)
 }
 
-/// The byte form of the entry. `TooLong` where its body is longer than `MAX_BODY_LENGTH`, which is tested first, and
-/// `OutOfMemory` where the bytes found no memory.
+/// Returns the byte form of the entry. `TooLong` if its body is longer than `MAX_BODY_LENGTH`; this is
+/// tested first. `OutOfMemory` if there was no memory for the bytes.
 pub fn encode(alloc: Global, entry: &Entry) -> Result<Vec<u8>, EncodeError>
     ensures form { IfOk result (λ bytes. form.IsForm entry.now bytes.items) }
     ensures too_long { (result ≡ Err EncodeError.TooLong) ↔ (MAX_BODY_LENGTH < length (form.body entry.now)) }

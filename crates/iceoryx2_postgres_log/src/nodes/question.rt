@@ -6,7 +6,7 @@ ghost use Rattle.iceoryx2_postgres_log.specs.NodeQuestions.{claiming, claiming_d
 use crate::patience::lock_wait;
 use std::alloc::{AllocError, Global};
 
-/// The session claims the node, and waits for who has it.
+/// The session claims the node, and waits for the session that has it.
 #[tactic(auto, unfolding(crate::specs::NodeQuestions::claiming))]
 pub fn claiming(
     alloc: Global,

@@ -1,4 +1,4 @@
-//! What the server tells of nodes.
+//! The rows that the server tells of nodes.
 
 ghost use Rattle.std.specs.Prelude.{◌≡◌, ◌<◌, ◌∷◌, [], map, IfOk, IfSome, IsTrue, All, decimal, string_bytes};
 ghost use Rattle.iceoryx2_postgres_log.specs.Nodes.{free_rows, node_row, IsRising};
@@ -8,7 +8,7 @@ use crate::line::Line;
 use crate::number::number_of;
 use std::alloc::{AllocError, Global};
 
-/// The number whose decimal form the line is.
+/// Returns the number whose decimal form the line is.
 fn decimal_of(alloc: Global, line: &[u8]) -> Result<Option<u64>, AllocError>
     ensures { IfOk result (λ found. IfSome found (λ number. line.now ≡ decimal number)) }
 {
@@ -22,7 +22,7 @@ fn decimal_of(alloc: Global, line: &[u8]) -> Result<Option<u64>, AllocError>
     Ok(None)
 }
 
-/// How a node is told.
+/// Returns the row by which the server tells a node.
 fn row_text(alloc: Global, row: NodeRow) -> Result<String, AllocError>
     ensures { IfOk result (λ text. string_bytes text ≡ node_row row) }
 {
@@ -33,7 +33,7 @@ fn row_text(alloc: Global, row: NodeRow) -> Result<String, AllocError>
     format!(in alloc; "{node} dead")
 }
 
-/// The node that the line seems to tell.
+/// Returns the node that the line seems to tell.
 fn read_row(line: &[u8]) -> Option<NodeRow> {
     if let Some(digits) = line.strip_suffix(b" alive") {
         let node = number_of(digits)?;
@@ -49,7 +49,7 @@ fn read_row(line: &[u8]) -> Option<NodeRow> {
     })
 }
 
-/// The node that the line tells.
+/// Returns the node that the line tells.
 fn row_of(alloc: Global, line: &[u8]) -> Result<Option<NodeRow>, AllocError>
     ensures { IfOk result (λ found. IfSome found (λ row. line.now ≡ node_row row)) }
 {
@@ -63,7 +63,7 @@ fn row_of(alloc: Global, line: &[u8]) -> Result<Option<NodeRow>, AllocError>
     Ok(None)
 }
 
-/// Whether the node has a higher number than all of these.
+/// Returns true if the node has a higher number than all of these.
 fn is_above(rows: &[NodeRow], node: u64) -> bool
     requires { IsRising rows.now }
     ensures { IsTrue result → All (λ row. row.node < node) rows.now }
@@ -74,7 +74,7 @@ fn is_above(rows: &[NodeRow], node: u64) -> bool
     }
 }
 
-/// The nodes that the lines tell, where each line tells one and their numbers rise.
+/// Returns the nodes that the lines tell, if each line tells one and their numbers rise.
 pub fn rows_of(alloc: Global, lines: &[Line]) -> Result<Option<Vec<NodeRow>>, AllocError>
     ensures { IfOk result (λ found. IfSome found (λ rows.
         (lines.now ≡ map node_row rows.items) × IsRising rows.items)) }
@@ -92,7 +92,7 @@ pub fn rows_of(alloc: Global, lines: &[Line]) -> Result<Option<Vec<NodeRow>>, Al
     Ok(Some(rows))
 }
 
-/// The node that the lines tell, where they are one number or none.
+/// Returns the node that the lines tell, if they are one number or none.
 pub fn free_node_of(alloc: Global, lines: &[Line]) -> Result<Option<Option<u64>>, AllocError>
     ensures { IfOk result (λ told. IfSome told (λ found. lines.now ≡ free_rows found)) }
 {

@@ -15,10 +15,11 @@ use std::collections::VecDeque;
 use std::io::{BufRead, Write};
 
 impl<R: BufRead, W: Write> PostgresLog<R, W> {
-    /// A handle of the same log in a new session, behind the entry where this one stands. For a handle that is over.
-    /// Nothing is held, and nothing of the log is read: the first hold or look finds out by the place and its sum
-    /// whether the log is the one that was read, and else ends with `AnotherHistory`. `AnotherHistory` too where
-    /// another log has its name by now, or the current generation is an earlier one. `NoLog` where no log has it.
+    /// Returns a handle of the same log in a new session, behind the entry where this handle stands. It
+    /// is for a handle that is over. Nothing is held, and nothing of the log is read. The first hold or
+    /// look finds out by the place and its sum whether the log is the one that was read, and else ends
+    /// with `AnotherHistory`. `AnotherHistory` also comes if another log has its name by now, or if the
+    /// current generation is an earlier one. `NoLog` if no log has its name.
     pub fn again(
         &self,
         mut questions: W,

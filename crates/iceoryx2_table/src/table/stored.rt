@@ -1,4 +1,5 @@
-//! What a storage keeps of all nodes, the own part of each access of one, and what writes it down.
+//! The content that a storage keeps of all nodes, the own part of each access of one, and the recorder that
+//! writes it down.
 
 ghost use Rattle.std.specs.Prelude.{◌≡◌, ◌&&◌, IfOk, nat_lt, filter, length};
 ghost use Rattle.iceoryx2_world.specs.World.{belongs, empty_world, ticket_count, tag_of};
@@ -33,11 +34,12 @@ use std::marker::Model;
 
 /// The services, the tags and the tickets.
 ///
-/// Nine of a node's accesses change what others may have to know, and take a `Recorder`. One that is granted and
-/// changes something asks it once, after all tests and all that it asks of memory, and before the first change,
-/// which can't fail then. One that is refused, finds no memory or changes nothing doesn't ask. Where the recorder
-/// refuses, the access answers its general fault, which each of them names, and nothing has changed. With
-/// `Unrecorded` each is the node's own part alone.
+/// Nine of a node's accesses change facts that others may have to know, and take a `Recorder`. An access
+/// that is granted and changes something asks the recorder once. It asks after all tests and after all
+/// requests for memory, and before the first change, which can't fail then. An access that is refused,
+/// finds no memory or changes nothing doesn't ask. If the recorder refuses, the access answers its
+/// general fault, which each access names, and nothing has changed. With `Unrecorded` each access is the
+/// node's own part alone.
 pub struct StoredWorld {
     services: Services,
     tags: SortedVec<(u64, ServiceHash), ()>,
@@ -80,7 +82,7 @@ fn count_held(tickets: &[(u64, Ticket)], node: u64, hash: &ServiceHash) -> usize
         .count()
 }
 
-/// Whether it is this node's ticket for this service and number.
+/// Returns true if this is the node's ticket for this service and number.
 pub fn is_held(held: Option<&Ticket>, node: u64, hash: &ServiceHash, number: u64) -> bool
     ensures { result ≡ is_ticket node hash.now number (option_copied held.entry) }
 {
@@ -90,7 +92,7 @@ pub fn is_held(held: Option<&Ticket>, node: u64, hash: &ServiceHash, number: u64
     }
 }
 
-/// What a node is given for a service and number.
+/// Returns the ticket that a node is given for a service and number.
 pub fn ticket_for(node: u64, hash: &ServiceHash, number: u64) -> Ticket
     ensures { result ≡ record { node = node; hash = hash.now; number = number } }
 {
@@ -101,7 +103,7 @@ pub fn ticket_for(node: u64, hash: &ServiceHash, number: u64) -> Ticket
     }
 }
 
-/// Whether it has made a segment under the lock of this number.
+/// Returns true if the participant has made a segment under the lock of this number.
 pub fn has_made(phase: Phase, number: u64) -> bool
     ensures { result ≡ has_made_spec number phase }
 {
@@ -111,7 +113,7 @@ pub fn has_made(phase: Phase, number: u64) -> bool
     }
 }
 
-/// Whether it holds the lock of this number, for at least one node.
+/// Returns true if the participant holds the lock of this number, for at least one node.
 pub fn may_make(phase: Phase, number: u64, max_nodes: u64) -> bool
     ensures { result ≡ (has_lock number phase && nat_lt 0 max_nodes) }
 {
@@ -121,7 +123,7 @@ pub fn may_make(phase: Phase, number: u64, max_nodes: u64) -> bool
     }
 }
 
-/// The count of skipped steps after one that answered this.
+/// Returns the count of skipped steps after a step that answered this.
 pub fn count_after(taken: Result<bool, AllocError>, skipped: u64) -> u64
     ensures { result ≡ skipped_after taken skipped }
 {
@@ -142,7 +144,7 @@ impl StoredWorld {
         count_after(taken, skipped)
     }
 
-    /// Takes a batch's steps in order, and gives the count of skipped steps after them.
+    /// Takes a batch's steps in order, and returns the count of skipped steps after them.
     pub fn take_all(&mut self, batch: &[Step], skipped: u64) -> u64
         ensures { IsBatch (self.old, skipped) batch.now (self.new, result) }
     {
@@ -153,7 +155,7 @@ impl StoredWorld {
         count
     }
 
-    /// Nothing yet, with the counter's first value. Takes no memory.
+    /// Returns an empty world with the counter's first value. Takes no memory.
     pub fn starting_at(alloc: Global, counter: u64) -> StoredWorld
         ensures { result ≡ empty_world counter }
     {
@@ -164,14 +166,14 @@ impl StoredWorld {
         }
     }
 
-    /// Each service with a row or a segment, in the order of the hashes' bytes.
+    /// Returns each service with a row or a segment, in the order of the hashes' bytes.
     pub fn list(&self) -> Result<Vec<Entry>, AllocError>
         ensures { IfOk result (λ entries. Lists self.now entries.items) }
     {
         self.services.list()
     }
 
-    /// Whether the node has a tag for the service.
+    /// Returns true if the node has a tag for the service.
     pub fn has_tag(&self, node: u64, hash: &ServiceHash) -> bool
         ensures { result ≡ tag_of self.now node hash.now }
     {
@@ -181,15 +183,16 @@ impl StoredWorld {
         }
     }
 
-    /// How many tickets the node has for the service.
+    /// Returns the number of tickets that the node has for the service.
     pub fn tickets(&self, node: u64, hash: &ServiceHash) -> u64
         ensures { result ≡ ticket_count self.now.tickets node hash.now }
     {
         count_held(self.tickets.entries(), node, hash) as u64
     }
 
-    /// Something that the node has: its first ticket; where it has none, the first service that it is creating or has
-    /// to remove; where there is none either, its first tag. `None` where it has none of these.
+    /// Returns something that the node has. It is the node's first ticket; if the node has none, the
+    /// first service that it is creating or has to remove; if there is none either, its first tag. `None`
+    /// if the node has none of these.
     pub fn holding(&self, node: u64) -> Option<Holding>
         ensures { IsHolding self.now node result }
     {
@@ -202,15 +205,16 @@ impl StoredWorld {
         first_tag(self.tags.entries(), node)
     }
 
-    /// The next number or ticket: what `lock` and `open_segment` hand out where they are granted.
+    /// Returns the next number or ticket: the one that `lock` and `open_segment` hand out if they are
+    /// granted.
     pub fn counter(&self) -> u64
         ensures { result ≡ self.now.counter }
     {
         self.services.counter()
     }
 
-    /// `No` where nothing is written under the hash, `BeingSetUp` where somebody holds its lock, and `Yes` where it is
-    /// published.
+    /// Returns `No` if nothing is written under the hash, `BeingSetUp` if somebody holds its lock, and
+    /// `Yes` if it is published.
     pub fn exists(&self, hash: &ServiceHash) -> Existence
         ensures { IsOwnPart self.now (letter.Exists hash.now result) self.now }
     {
@@ -223,8 +227,9 @@ impl StoredWorld {
         }
     }
 
-    /// The number and the bytes of what is published. The node has read them then, which nobody else has to know, so
-    /// nothing is written down. `DoesNotExist`, `NotFinalized` while it is being set up, `OutOfMemory`.
+    /// Returns the number and the bytes of the published description. The node has read them then, which
+    /// nobody else has to know, so nothing is written down. `DoesNotExist`, `NotFinalized` while the
+    /// service is being set up, `OutOfMemory`.
     pub fn fetch(&mut self, node: u64, hash: &ServiceHash) -> Result<(u64, Vec<u8>), FetchError>
         ensures { IsOwnPart self.old (letter.Fetch node hash.now (fetch_answer result)) self.new }
     {
@@ -243,7 +248,7 @@ impl StoredWorld {
         Ok((number, copy))
     }
 
-    /// Whether the node is registered in the service's segment.
+    /// Returns true if the node is registered in the service's segment.
     pub fn counts(&self, node: u64, hash: &ServiceHash) -> bool
         ensures { IsOwnPart self.now (letter.Counts node hash.now result) self.now }
     {
@@ -253,7 +258,8 @@ impl StoredWorld {
         }
     }
 
-    /// `Found` where the node's tag is there, else `Made`. `OutOfMemory`, and `Fault` where the recorder refuses.
+    /// Makes the node's tag. Returns `Found` if the tag is there already, else `Made`. `OutOfMemory`, and
+    /// `Fault` if the recorder refuses.
     pub fn make_tag<R: Recorder>(
         &mut self,
         recorder: &mut R,
@@ -278,7 +284,7 @@ impl StoredWorld {
         Ok(Tag::Made)
     }
 
-    /// The node's tag isn't there any more. `Other` where the recorder refuses.
+    /// Removes the node's tag. `Other` if the recorder refuses.
     pub fn remove_tag<R: Recorder>(
         &mut self,
         recorder: &mut R,
@@ -300,9 +306,9 @@ impl StoredWorld {
         Ok(())
     }
 
-    /// The node holds the service's lock, whose number is the counter before. `Creation` while another holds it,
-    /// `AlreadyExists` where it is published, `OutOfMemory`, and `Other` where no number is left, where the node holds
-    /// something there, and where the recorder refuses.
+    /// Gives the node the service's lock, and returns its number: the counter before. `Creation` while
+    /// another node holds the lock, `AlreadyExists` if the service is published, and `OutOfMemory`.
+    /// `Other` if no number is left, if the node holds something there, or if the recorder refuses.
     pub fn lock<R: Recorder>(
         &mut self,
         recorder: &mut R,
@@ -332,8 +338,9 @@ impl StoredWorld {
         Ok(number)
     }
 
-    /// There is a segment for so many nodes, and the node is in it. `AlreadyExists`, `OutOfMemory`, and `Other`
-    /// where the node doesn't hold the lock of that number, for no nodes, and where the recorder refuses.
+    /// Makes a segment for so many nodes, and puts the node into it. `AlreadyExists`, and `OutOfMemory`.
+    /// `Other` if the node doesn't hold the lock of that number, for no nodes, or if the recorder
+    /// refuses.
     pub fn make_segment<R: Recorder>(
         &mut self,
         recorder: &mut R,
@@ -366,7 +373,7 @@ impl StoredWorld {
         Ok(())
     }
 
-    /// The segment isn't there any more. `Other` where the node may not take it away, and where the recorder refuses.
+    /// Removes the segment. `Other` if the node may not remove it, or if the recorder refuses.
     pub fn remove_segment<R: Recorder>(
         &mut self,
         recorder: &mut R,
@@ -385,7 +392,7 @@ impl StoredWorld {
         Err(RemoveError::Other)
     }
 
-    /// Nothing is written under the hash any more. `Other` where the node may not take it away, and where the recorder
+    /// Removes what is written under the hash. `Other` if the node may not remove it, or if the recorder
     /// refuses.
     pub fn remove_description<R: Recorder>(
         &mut self,
@@ -405,9 +412,9 @@ impl StoredWorld {
         Err(RemoveError::Other)
     }
 
-    /// The description is published under the number, which is the ticket of the node, registered then.
-    /// `OutOfMemory`, and `Other` where the node hasn't made a segment of that number which the description fits,
-    /// and where the recorder refuses.
+    /// Publishes the description under the number, which becomes the ticket of the node: the node is
+    /// registered then. `OutOfMemory`. `Other` if the node hasn't made a segment of that number that the
+    /// description fits, or if the recorder refuses.
     pub fn publish<R: Recorder>(
         &mut self,
         recorder: &mut R,
@@ -444,10 +451,10 @@ impl StoredWorld {
         Ok(ticket)
     }
 
-    /// The node is registered in the segment of that number, and has a ticket, which is the counter before.
-    /// `DoesNotExist`, `Marked` where all have left, `Full`, `OutOfNumbers`, `OutOfMemory`, and `Failed` where the
-    /// segment or what the node has read has another number, where the node can't join, and where the recorder
-    /// refuses.
+    /// Registers the node in the segment of that number, and returns its ticket: the counter before.
+    /// `DoesNotExist`, `Marked` if all have left, `Full`, `OutOfNumbers`, and `OutOfMemory`. `Failed` if
+    /// the segment has another number, or the description that the node has read, if the node can't join,
+    /// or if the recorder refuses.
     pub fn open_segment<R: Recorder>(
         &mut self,
         recorder: &mut R,
@@ -484,9 +491,9 @@ impl StoredWorld {
         Ok(ticket)
     }
 
-    /// The ticket isn't there any more: `StillCounted` where the node has others, `Left`, and `Last` where nobody
-    /// stays, whose segment is marked then, with the same entry. `NoSuchTicket` where the node has no such ticket
-    /// for the service and number, and where the recorder refuses.
+    /// Releases the ticket. Returns `StillCounted` if the node has others, else `Left`, or `Last` if
+    /// nobody stays; the segment is then marked by the same entry. `NoSuchTicket` if the node has no such
+    /// ticket for the service and number, or if the recorder refuses.
     pub fn release<R: Recorder>(
         &mut self,
         recorder: &mut R,

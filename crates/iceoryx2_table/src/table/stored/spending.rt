@@ -9,10 +9,11 @@ use iceoryx2_description::description::ServiceHash;
 use iceoryx2_world::world::Participant;
 
 impl StoredWorld {
-    /// The counter goes on at the number, as where the node locks the service under each number before it and gives it
-    /// up again: that it comes to the same is `laws_of_spending`. False, and nothing changes, where the counter is past
-    /// the number, where something is written under the hash, and where the node has a phase there, even Read. It takes
-    /// no memory, and two binary searches, however many numbers are spent.
+    /// Lets the counter go on at the number, as if the node locked the service under each number before
+    /// it and gave it up again. `laws_of_spending` states that both come to the same. Returns false, and
+    /// changes nothing, if the counter is past the number, if something is written under the hash, or if
+    /// the node has a phase there, even Read. It takes no memory, and two binary searches, however many
+    /// numbers are spent.
     pub fn spend(&mut self, node: u64, hash: &ServiceHash, number: u64) -> bool
         ensures spent { IsTrue result → Spends node hash.now number self.old self.new }
         ensures stays { IsFalse result → self.new ≡ self.old }
