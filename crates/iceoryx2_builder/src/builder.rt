@@ -64,9 +64,10 @@ use iceoryx2_types::types::{self, ZeroCopySend};
 use std::alloc::AllocError;
 use std::marker::{Model, PhantomData};
 
-/// One that creates and opens services: a number, and the settings that its builders start from.
+/// A node, which creates and opens services: a number, and the settings that its builders start
+/// from.
 ///
-/// How often it uses a service is counted in the storage, not here.
+/// The storage counts how often a node uses a service. The node doesn't.
 pub struct Node<S: Service> {
     id: u64,
     config: Config,
@@ -92,7 +93,7 @@ impl<S: Service> Drop for Node<S> {
 }
 
 impl<S: Service> Node<S> {
-    /// A node of this number. Nodes of one storage are told apart by their numbers alone.
+    /// Returns a node with this number. Nodes of one storage are told apart by their numbers alone.
     pub fn new(id: u64, config: Config) -> Self
         ensures { result ≡ record { id = id; config = config } }
     {
@@ -103,21 +104,21 @@ impl<S: Service> Node<S> {
         }
     }
 
-    /// Its number.
+    /// Returns the node's number.
     pub fn id(&self) -> u64
         ensures { result ≡ self.now.id }
     {
         self.id
     }
 
-    /// The settings that its builders start from.
+    /// Returns the settings that the node's builders start from.
     pub fn config(&self) -> &Config
         ensures { result.now ≡ self.now.config }
     {
         &self.config
     }
 
-    /// Begins a builder for the service of this name.
+    /// Returns a builder for the service of this name.
     pub fn service_builder(&self, name: ServiceName) -> Builder<S>
         ensures { result ≡ record { node = self.now.id; config = self.now.config; name = name } }
     {
@@ -157,7 +158,7 @@ impl<S: Service> Clone for Builder<S> {
 
     ghost is_clone = { λ builder copy. copy ≡ builder };
 
-    /// `AllocError` where there was no memory for the name.
+    /// Returns `AllocError` if there was no memory for the name.
     fn clone(&self) -> Result<Builder<S>, AllocError> {
         let Builder { base, config } = self;
         Ok(Builder {
@@ -168,7 +169,8 @@ impl<S: Service> Clone for Builder<S> {
 }
 
 impl<S: Service> Builder<S> {
-    /// A builder of a service of events, with the node's settings, of which none is required.
+    /// Returns a builder of a service of events, with the node's settings. None of them is
+    /// required.
     pub fn event(self) -> event::Builder<S>
         ensures { result ≡ fresh_builder self.node self.name self.config.event }
     {
@@ -176,8 +178,8 @@ impl<S: Service> Builder<S> {
         event::Builder::new(base, config.event)
     }
 
-    /// A builder of a service of publish-subscribe whose messages have this payload and no user
-    /// header, with the node's settings, of which none is required.
+    /// Returns a builder of a service of publish-subscribe, with the node's settings. None of them
+    /// is required. The service's messages have this payload and no user header.
     pub fn publish_subscribe<P: ZeroCopySend>(self) -> publish_subscribe::Builder<P, (), S>
         ensures { result ≡ fresh_publish_subscribe self.node self.name self.config.publish_subscribe }
     {
@@ -185,9 +187,9 @@ impl<S: Service> Builder<S> {
         publish_subscribe::Builder::new(base, config.publish_subscribe)
     }
 
-    /// A builder of a service of request-response whose requests have the payload `Q` and whose
-    /// responses have the payload `R`, both without user headers, with the node's settings, of
-    /// which none is required.
+    /// Returns a builder of a service of request-response, with the node's settings. None of them
+    /// is required. The service's requests have the payload `Q` and its responses the payload `R`.
+    /// Both have no user headers.
     pub fn request_response<Q: ZeroCopySend, R: ZeroCopySend>(
         self,
     ) -> request_response::Builder<Q, (), R, (), S>
@@ -198,13 +200,14 @@ impl<S: Service> Builder<S> {
     }
 }
 
-/// What holds of each builder's setters and of what it requires.
+/// Laws of each builder's setters and of what a builder requires.
 ///
-/// Setters of different settings may come in either order, and of two that set the same one the last
-/// stands. Each message is compatible to itself, and compatibility is passed on. What one open accepts,
-/// another that asks no more accepts too: each setting that it requires is required by the first as well,
-/// with a number at least as great or with the same value, each required pair and key is one of the first
-/// one's, and its messages are compatible to the first one's.
+/// Setters of different settings may come in either order. If two setters set the same setting, the
+/// last one counts. Each message is compatible to itself, and compatibility is transitive. What one
+/// open accepts, another open that asks no more accepts too. It asks no more if the first open
+/// requires each setting that it requires, with a number at least as great or with the same value,
+/// if each of its required pairs and keys is one of the first open's, and if its messages are
+/// compatible to those of the first open.
 pub fn laws()
     ensures event_setters { AreSetters with_event_setting event_place }
     ensures publish_subscribe_setters { AreSetters with_publish_subscribe_setting publish_subscribe_place }
@@ -229,12 +232,12 @@ pub fn laws()
     types::laws_of_compatibility();
 }
 
-/// What holds of the calls of each builder, whatever they ask and whatever the clock says.
+/// Laws of the calls of each builder, whatever they ask and whatever the clock says.
 ///
 /// A builder opens what the same builder creates, if the defined pairs meet the attributes that the
-/// open requires: with its adjusted settings a create publishes what fits it and meets each setting
-/// that it requires. And what a table that nobody else uses refuses is not tried again by an open or
-/// create.
+/// open requires. With its adjusted settings a create publishes a service that fits the open and
+/// meets each setting that the open requires. If a table that nobody else uses refuses a call, an
+/// open or create doesn't try again.
 pub fn laws_of_calls()
     ensures events { (demand : EventDemand) → IsLawfulBuilder (event_creating demand) (event_opening demand) }
     ensures publish_subscribe { (demand : PublishSubscribeDemand) (message : Message)
@@ -259,10 +262,11 @@ pub fn laws_of_calls()
     request_response::ends_at_once();
 }
 
-/// What a create adjusts only raises minima.
+/// A create's adjustments only raise minima.
 ///
-/// What is asked asks no more than what a create makes of it, so what is accepted with the adjusted
-/// settings is accepted as it was asked too; and adjusting twice is adjusting once.
+/// A demand asks no more than the demand that a create makes of it. So a service that is accepted
+/// with the adjusted settings is accepted as it was asked too. Adjusting twice is the same as
+/// adjusting once.
 pub fn laws_of_adjusting()
     ensures events_ask_no_more { (demand : EventDemand) → IsWeakerEvent demand (event_adjusted demand) }
     ensures publish_subscribe_asks_no_more { (demand : PublishSubscribeDemand)
@@ -276,11 +280,11 @@ pub fn laws_of_adjusting()
     types::laws_of_compatibility();
 }
 
-/// Each call of a builder, whichever of its three it is, is one of which the laws over whole calls
-/// speak: its create publishes for one node or more, only raises minima, and publishes what an open
-/// takes that has the same settings and types and requires no attributes; and what a table that nobody
-/// else uses refuses is not tried again. The words of which those laws speak are those of the builder's own
-/// clauses: a create's, an open's, and an open or create's.
+/// The laws over whole calls apply to each call of a builder, whichever of its three it is. Its
+/// create publishes for one node or more and only raises minima. An open with the same settings and
+/// types that requires no attributes takes what the create publishes. If a table that nobody else
+/// uses refuses a call, an open or create doesn't try again. The words of which those laws speak
+/// are those of the builder's own clauses: a create's, an open's, and an open or create's.
 pub fn lawful_calls()
     ensures events { (hash_of : ℕ → List ℕ → ServiceHash) (b : EventBuilderState) (way : Way)
         (defined : List Pair) (required : Requirements) (now : Result Span ClockFault)
@@ -322,11 +326,11 @@ pub fn lawful_calls()
         × SameWords (IsOpenOrCreateCall either) (IsWordOf either) }
 {}
 
-/// What a call answers whose look finds something wrong.
+/// The answer of a call if its look finds something wrong.
 ///
-/// Whatever a look of the rounds finds wrong has a public state, a `ServiceState` or one of the pattern's
-/// `ServiceAvailabilityState`. An open answers the error that this state becomes by `From`, as its open error, and a
-/// create the one that it becomes as its create error.
+/// Each fault that a look of the rounds finds has a public state, a `ServiceState` or one of the
+/// pattern's `ServiceAvailabilityState`. `From` turns this state into an open error and into a
+/// create error. An open answers the first and a create the second.
 pub fn laws_of_looks()
     ensures events { (demand : EventDemand) → AnswersStates (event_meaning demand)
         event_fault_of event_open_error_of_state event_create_error_of_state }
@@ -336,12 +340,12 @@ pub fn laws_of_looks()
         request_response_fault_of request_response_open_error_of_state request_response_create_error_of_state }
 {}
 
-/// After which errors an open or create goes on to the next round: those whose reason is retried, of each open and each
-/// create.
+/// The errors after which an open or create goes on to the next round: those whose reason is
+/// retried, of each open and each create.
 ///
-/// It goes on where the open of a round answers `DoesNotExist`, `ServiceInCorruptedState` or `IsMarkedForDestruction`,
-/// and where its create answers `AlreadyExists`, `IsBeingCreatedByAnotherInstance` or `ServiceInCorruptedState`. Any
-/// other error ends the call.
+/// It goes on if the open of a round answers `DoesNotExist`, `ServiceInCorruptedState` or
+/// `IsMarkedForDestruction`, or if its create answers `AlreadyExists`,
+/// `IsBeingCreatedByAnotherInstance` or `ServiceInCorruptedState`. Any other error ends the call.
 pub fn laws_of_retries()
     ensures event_opens { (error : EventOpenError)
         → event_retried.of_open error ≡ is_retried (event_open_reason error) }

@@ -1,4 +1,4 @@
-//! What a session is given, and what it answers.
+//! The commands that a session is given, and its replies.
 
 ghost use Rattle.std.specs.Prelude.{◌≡◌};
 
@@ -11,7 +11,7 @@ pub use iceoryx2_publish_subscribe_builder::publish_subscribe::PublishSubscribeS
 pub use iceoryx2_request_response_builder::request_response::RequestResponseSetter;
 use iceoryx2_world::listing::Entry;
 
-/// How many slots a session has.
+/// The number of slots of a session.
 pub const SLOTS: usize = 64;
 
 /// There are 64 slots.
@@ -19,12 +19,12 @@ pub fn slots_are_64()
     ensures { SLOTS ≡ 64 }
 {}
 
-/// How a service is wanted.
+/// The way in which a call asks for a service.
 #[derive(Clone, Copy, Debug, PartialEq, Eq)]
 pub enum How {
     Create,
     Open,
-    /// Opened, or created where there is none.
+    /// Opens the service, or creates it if there is none.
     OpenOrCreate,
 }
 
@@ -32,13 +32,13 @@ pub enum How {
 #[derive(Debug, Drop)]
 pub enum Settings {
     Event(Vec<EventSetter>),
-    /// A payload and a user header whose types aren't named stay markers.
+    /// A payload or a user header stays a marker if no setter names its type.
     PublishSubscribe(Vec<PublishSubscribeSetter>),
-    /// The same holds of a request and of a response.
+    /// The same holds for a request and for a response.
     RequestResponse(Vec<RequestResponseSetter>),
 }
 
-/// A builder call of a node, whose factory goes into a slot.
+/// A builder call of a node. Its factory goes into a slot.
 #[derive(Debug, Drop)]
 pub struct Call {
     pub how: How,
@@ -46,14 +46,14 @@ pub struct Call {
     pub slot: usize,
     pub name: ServiceName,
     pub settings: Settings,
-    /// What an open requires. A create, also that of an open or create, defines the required pairs, and
-    /// ignores the keys.
+    /// The attributes that an open requires. A create, also that of an open or create, defines the
+    /// required pairs and ignores the keys.
     pub attributes: AttributeVerifier,
-    /// The time, for what is created with a deadline.
+    /// The time. A service with a deadline is created at this time.
     pub now: Result<Time, ClockFault>,
 }
 
-/// What a session is given.
+/// A command for a session.
 #[derive(Debug, Drop)]
 pub enum Command {
     Call(Call),
@@ -63,24 +63,24 @@ pub enum Command {
     List,
 }
 
-/// What a session answers.
+/// A session's reply to a command.
 #[derive(Debug, Drop, PartialEq, Eq)]
 pub enum Reply {
-    /// The slot holds the factory of the service of this number.
+    /// The call was granted. The slot holds the factory of the service of this number.
     Opened { slot: usize, number: u64 },
-    /// The builder call was refused, and the slot is as free as before.
+    /// The builder call was refused. The slot is as free as before.
     Refused(Refusal),
-    /// The slot's factory is closed, and the slot is free.
+    /// The slot's factory is closed. The slot is free.
     Closed { slot: usize },
-    /// The storage didn't release the slot's factory, and the slot holds it as before.
+    /// The storage didn't release the slot's factory. The slot holds it as before.
     NotClosed { slot: usize },
-    /// Another factory is in the slot, and nothing was called.
+    /// Another factory is in the slot. Nothing was called.
     SlotInUse,
     /// There is no factory in the slot.
     SlotEmpty,
-    /// There are only the slots 0 to 63.
+    /// There is no such slot: the slots are 0 to 63.
     NoSuchSlot,
-    /// Each service with a row or a segment, in the order of the hashes' bytes.
+    /// The services with a row or a segment, in the order of the hashes' bytes.
     Listing(Vec<Entry>),
     /// There was no memory for the listing.
     OutOfMemory,

@@ -1,4 +1,4 @@
-//! What is true of whole calls over a table of which any access may be refused.
+//! Laws of whole calls over a table of which any access may be refused.
 
 ghost use Rattle.std.specs.Prelude.{List, Result};
 ghost use Rattle.iceoryx2_access.specs.Letter.{Letter};
@@ -15,19 +15,22 @@ ghost use Rattle.iceoryx2_call_laws.specs.Laws.{CallKeepsStanding, CloseKeepsAgr
 ghost use Rattle.iceoryx2_call_laws.specs.Laws.{LeavesWhatIsRefused, TakesTicketOut, CloseLeavesWhatIsRefused};
 ghost use Rattle.iceoryx2_call_laws.specs.OverNoRow.{CreatesOverNoRow, AnswersOverNoRow};
 
-/// `agreement` over a storage that refuses chosen accesses of a table, whichever these are and whatever steps peers
-/// take. The refused accesses may be those by which a call gives back, or by which a close removes. As over a table,
-/// every node is one's own (`everyone`).
+/// The laws of `agreement` over a storage that refuses chosen accesses of a table, whichever these
+/// are and whatever steps peers take. The refused accesses may be those by which a call gives back,
+/// or by which a close removes. As over a table, every node is one's own (`everyone`).
 ///
-/// An access that is refused answers its general fault and changes nothing. The world agrees after each access of a
-/// call or a close, and is later than before (`keeps_agreement`, `close_keeps_agreement`). A standing factory stands
-/// through every call (`keeps_standing`), through a close of a factory with another ticket (`close_keeps_standing`),
-/// through a close that hands it back (`not_here`), and through any access but a granted release of its own ticket
-/// (`access_keeps_standing`). A call that answers Ok leaves its own factory standing too (`every_open_factory_stands`).
+/// A refused access answers its general fault and changes nothing. The world agrees after each
+/// access of a call or a close, and is later than before (`keeps_agreement`,
+/// `close_keeps_agreement`). A standing factory stands through every call (`keeps_standing`),
+/// through a close of a factory with another ticket (`close_keeps_standing`), and through a close
+/// that hands it back (`not_here`). It stands through any access except a granted release of its
+/// own ticket (`access_keeps_standing`). A call that answers Ok leaves its own factory standing too
+/// (`every_open_factory_stands`).
 ///
-/// A refused call leaves of its own only that for which a removal was refused (`leaves`). A close that doesn't hand its
-/// factory back takes the ticket out (`taken_out`), and leaves only that for which a removal was refused
-/// (`close_leaves`). By `of_tables` what `agreement` says of any world whose accesses may be refused holds here too.
+/// A refused call leaves of its own things only those whose removal was refused (`leaves`). A close
+/// that doesn't hand its factory back takes the ticket out (`taken_out`), and leaves only those
+/// things whose removal was refused (`close_leaves`). By `of_tables`, everything that `agreement`
+/// says of a world whose accesses may be refused holds here too.
 pub fn agreement_under_faults<D, E: Copy, C: Copy>()
     // The accesses of a faulty storage with a table inside, whichever are refused and whatever batches
     // wait, are accesses of the table's world of which any may be refused, after what others do and so under

@@ -1,4 +1,4 @@
-//! What is true of whole calls, whatever the pattern and whatever others do.
+//! Laws of whole calls, whatever the pattern and whatever others do.
 
 ghost use Rattle.std.specs.Prelude.{◌≡◌, ℕ, Bool, true};
 ghost use Rattle.iceoryx2_access.specs.MayRefuse.{MayRefuse};
@@ -20,21 +20,22 @@ ghost use Rattle.iceoryx2_call_laws.specs.Promise.{Promise};
 /// access, and each open factory of an own node carries the one description of its service and stands there with
 /// its node, until its ticket is released.
 ///
-/// `own` tells which nodes are one's own, the caller among them. Others are peers and all other nodes: before
-/// each access anything may happen that keeps what own nodes rely on. Over a table every node is one's own
-/// (`everyone`), so tickets and tags of own nodes are all that there are.
+/// `own` tells which nodes are one's own. The caller is one of them. Others are peers and all other
+/// nodes: before each access anything may happen that keeps what own nodes rely on. Over a table
+/// every node is one's own (`everyone`), so there are only tickets and tags of own nodes.
 ///
-/// A call is a word of its accesses. A create, an open and an open or create may prepare the types of
-/// their messages first; one that doesn't goes along a word of its grammar, which is a word of such a
-/// call too.
-/// Unless a clause says otherwise, any access may be refused by a fault.
+/// A call is a word of its accesses. A create, an open and an open or create may prepare the types
+/// of their messages first. A call that doesn't prepare types goes along a word of its grammar.
+/// That word is a word of a call that prepares types too. Unless a clause says otherwise, a fault
+/// may refuse any access.
 ///
-/// Five clauses say what runs over a table keep. Calls and closes keep the agreement (`keeps_agreement`,
-/// `close_keeps_agreement`). A standing factory stands through every call (`keeps_standing`), through a close of a
-/// factory with another ticket (`close_keeps_standing`), and through any access but a granted release of its own ticket
-/// (`access_keeps_standing`). A call that answers Ok leaves its own factory standing too (`every_open_factory_stands`).
-/// `run` of `laws_of_accesses` and `stands` of `laws_of_standing` of `iceoryx2_world` say the same of any word over any
-/// world.
+/// Five clauses say what runs over a table keep. Calls and closes keep the agreement
+/// (`keeps_agreement`, `close_keeps_agreement`). A standing factory stands through every call
+/// (`keeps_standing`), through a close of a factory with another ticket (`close_keeps_standing`),
+/// and through any access except a granted release of its own ticket (`access_keeps_standing`). A
+/// call that answers Ok leaves its own factory standing too (`every_open_factory_stands`). `run` of
+/// `laws_of_accesses` and `stands` of `laws_of_standing` of `iceoryx2_world` say the same of any
+/// word over any world.
 pub fn agreement<D, E: Copy, C: Copy>()
     // A table's own accesses, whatever batches wait before them, are accesses of its world under
     // interference, whichever nodes are own, and so accesses of which any may be refused. So what is said of
@@ -135,11 +136,11 @@ pub fn agreement<D, E: Copy, C: Copy>()
     ensures close_is_short { CloseIsShort }
 {}
 
-/// The promise, of each lawful call, as those of the three builders are (`lawful_calls` of
-/// `iceoryx2_builder`): over a table, over any world whatever others do, and where chosen accesses are
-/// refused.
+/// The promise of each lawful call, as those of the three builders are (`lawful_calls` of
+/// `iceoryx2_builder`): over a table, over any world whatever others do, and when chosen accesses
+/// are refused.
 ///
-/// It adds to `every_open_factory_stands` that what an open or create gave is decided too: it meets
+/// It adds to `every_open_factory_stands` that what an open or create gave is decided too. It meets
 /// what was asked, or holds what was published.
 pub fn promise_of_lawful_calls<D, E: Copy, C: Copy>()
     ensures { (c : BuilderCall D E C) → IsLawfulCall c → Promise c }

@@ -1,4 +1,4 @@
-//! What the calls make of a table that nobody else uses.
+//! Laws of the calls over a table that nobody else uses.
 
 ghost use Rattle.iceoryx2_rounds.specs.PatternRules.{PatternRules};
 ghost use Rattle.iceoryx2_rounds.specs.OwnSettings.{AcceptsOwn};
@@ -14,7 +14,7 @@ ghost use Rattle.iceoryx2_call_laws.specs.QuietLaws.{Follows, RefusalHoldsTheSam
 ghost use Rattle.iceoryx2_call_laws.specs.QuietLaws.{CreateAndCloseSpend, TakesNoFurtherPlace, OpensWhatItCan};
 ghost use Rattle.iceoryx2_call_laws.specs.QuietWays.{Answers};
 
-/// What holds of a table that nobody else uses, whatever the patterns of its services.
+/// Laws of a table that nobody else uses, whatever the patterns of its services.
 pub fn quiet_laws()
     // A world in which nothing is there shows the machine without a service.
     ensures empty { EmptyShows }
@@ -47,7 +47,7 @@ pub fn quiet_laws()
     ensures list { ListsItsServices }
 {}
 
-/// What holds of the calls of each pattern over such a table.
+/// Laws of the calls of each pattern over such a table.
 pub fn quiet_calls<D, E: Copy, C: Copy>()
     // Every lawful call over a world that shows the machine is the machine's, whichever it is. An open or
     // create is its create where there is no service, and else its open: its first round is its last, where the

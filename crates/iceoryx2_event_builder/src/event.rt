@@ -37,7 +37,7 @@ use iceoryx2_rounds::port_factory::event::PortFactory;
 use std::alloc::AllocError;
 use std::marker::Model;
 
-/// The prefix that stands before a name in the hash of a service of events.
+/// The prefix of a name in the hash of a service of events.
 pub const PREFIX: u8 = b'e';
 
 /// The prefix is `e`.
@@ -45,16 +45,16 @@ pub fn prefix_is_e()
     ensures { PREFIX ≡ 101 }
 {}
 
-/// What holds of each builder of events.
+/// The law of each builder of events: it opens what it creates.
 ///
-/// With its adjusted settings a create publishes for one node or more, and what the same builder
-/// opens, if the defined pairs meet the attributes that the open requires: it fits it and meets
-/// each setting that it requires, whatever the clock says.
+/// With its adjusted settings a create publishes for one node or more. The same builder opens what
+/// the create publishes, if the defined pairs meet the attributes that the open requires: it fits
+/// the open and meets each setting that the open requires, whatever the clock says.
 pub fn opens_what_it_creates()
     ensures { (demand : EventDemand) → IsLawfulBuilder (event_creating demand) (event_opening demand) }
 {}
 
-/// What a table that nobody else uses refuses is not tried again by an open or create.
+/// If a table that nobody else uses refuses a call, an open or create doesn't try again.
 pub fn ends_at_once()
     ensures { (demand : EventDemand) (defined : List Pair) (required : Requirements) → EndsAtOnce event_retried
         (event_creating demand defined) (event_opening demand required) }
@@ -62,8 +62,9 @@ pub fn ends_at_once()
 
 /// A builder of a service of events.
 ///
-/// A setter sets the value with which a service is created, and marks the setting, so that an
-/// existing service has to offer as much to be opened. The last value that is set stands.
+/// A setter sets the value that a create uses, and marks the setting: an open then requires that
+/// the existing service offers as much. If a setter is called more than once, the last value
+/// counts.
 ///
 /// An example: `crates/examples/src/events.rt`.
 pub struct Builder<S: Service> {
@@ -90,7 +91,7 @@ impl<S: Service> Clone for Builder<S> {
 
     ghost is_clone = { λ builder copy. copy ≡ builder };
 
-    /// `AllocError` where there was no memory for the name.
+    /// Returns `AllocError` if there was no memory for the name.
     fn clone(&self) -> Result<Builder<S>, AllocError> {
         Ok(Builder {
             base: self.base.clone()?,
@@ -100,7 +101,7 @@ impl<S: Service> Clone for Builder<S> {
 }
 
 impl<S: Service> Builder<S> {
-    /// A builder with these settings, of which none is required.
+    /// Returns a builder with these settings. None of them is required.
     pub fn new(base: BuilderWithServiceType<S>, defaults: config::Event) -> Self
         ensures { result ≡ fresh_builder base.node base.name defaults }
     {
@@ -110,7 +111,7 @@ impl<S: Service> Builder<S> {
         }
     }
 
-    /// Carries out one setter, by its name.
+    /// Calls one setter, by its name.
     pub fn with(mut self, setting: EventSetter) -> Self
         ensures { result ≡ with_setting self setting }
     {
@@ -118,93 +119,100 @@ impl<S: Service> Builder<S> {
         self
     }
 
-    /// How many notifiers the service has room for. Zero is one in a create.
+    /// Sets the number of notifiers that the service has room for. A create takes zero as one.
     pub fn max_notifiers(self, value: u64) -> Self
         ensures { result ≡ with_setting self (EventSetter.MaxNotifiers value) }
     {
         self.with(EventSetter::MaxNotifiers(value))
     }
 
-    /// How many listeners the service has room for. Zero is one in a create.
+    /// Sets the number of listeners that the service has room for. A create takes zero as one.
     pub fn max_listeners(self, value: u64) -> Self
         ensures { result ≡ with_setting self (EventSetter.MaxListeners value) }
     {
         self.with(EventSetter::MaxListeners(value))
     }
 
-    /// The greatest number that an event may have.
+    /// Sets the greatest number that an event may have.
     pub fn event_id_max_value(self, value: u64) -> Self
         ensures { result ≡ with_setting self (EventSetter.EventIdMaxValue value) }
     {
         self.with(EventSetter::EventIdMaxValue(value))
     }
 
-    /// For how many nodes the service is. Zero is one in a create.
+    /// Sets the number of nodes that the service has room for. A create takes zero as one.
     pub fn max_nodes(self, value: u64) -> Self
         ensures { result ≡ with_setting self (EventSetter.MaxNodes value) }
     {
         self.with(EventSetter::MaxNodes(value))
     }
 
-    /// What is sent when a notifier is created. An existing service has to send the same.
+    /// Sets the event that is sent when a notifier is created. An existing service has to send the
+    /// same event.
     pub fn notifier_created_event(self, value: EventId) -> Self
         ensures { result ≡ with_setting self (EventSetter.NotifierCreatedEvent (Some value)) }
     {
         self.with(EventSetter::NotifierCreatedEvent(Some(value)))
     }
 
-    /// Nothing is sent when a notifier is created, and nothing by an existing service either.
+    /// Sets no event: nothing is sent when a notifier is created. An existing service must send
+    /// nothing either.
     pub fn disable_notifier_created_event(self) -> Self
         ensures { result ≡ with_setting self (EventSetter.NotifierCreatedEvent None) }
     {
         self.with(EventSetter::NotifierCreatedEvent(None))
     }
 
-    /// What is sent when a notifier goes. An existing service has to send the same.
+    /// Sets the event that is sent when a notifier goes. An existing service has to send the same
+    /// event.
     pub fn notifier_dropped_event(self, value: EventId) -> Self
         ensures { result ≡ with_setting self (EventSetter.NotifierDroppedEvent (Some value)) }
     {
         self.with(EventSetter::NotifierDroppedEvent(Some(value)))
     }
 
-    /// Nothing is sent when a notifier goes, and nothing by an existing service either.
+    /// Sets no event: nothing is sent when a notifier goes. An existing service must send nothing
+    /// either.
     pub fn disable_notifier_dropped_event(self) -> Self
         ensures { result ≡ with_setting self (EventSetter.NotifierDroppedEvent None) }
     {
         self.with(EventSetter::NotifierDroppedEvent(None))
     }
 
-    /// What is sent for a notifier whose process died. An existing service has to send the same.
+    /// Sets the event that is sent for a notifier whose process died. An existing service has to
+    /// send the same event.
     pub fn notifier_dead_event(self, value: EventId) -> Self
         ensures { result ≡ with_setting self (EventSetter.NotifierDeadEvent (Some value)) }
     {
         self.with(EventSetter::NotifierDeadEvent(Some(value)))
     }
 
-    /// Nothing is sent for a notifier whose process died, and nothing by an existing service either.
+    /// Sets no event: nothing is sent for a notifier whose process died. An existing service must
+    /// send nothing either.
     pub fn disable_notifier_dead_event(self) -> Self
         ensures { result ≡ with_setting self (EventSetter.NotifierDeadEvent None) }
     {
         self.with(EventSetter::NotifierDeadEvent(None))
     }
 
-    /// Within what time a notifier has to notify again. An existing service has to have the same
-    /// deadline, whenever it was created.
+    /// Sets the time within which a notifier has to notify again. An existing service has to have a
+    /// deadline of the same length, whenever the service was created.
     pub fn deadline(self, value: Duration) -> Self
         ensures { result ≡ with_setting self (EventSetter.Deadline (Some value)) }
     {
         self.with(EventSetter::Deadline(Some(value)))
     }
 
-    /// A notifier need not notify again, and an existing service has no deadline either.
+    /// Sets no deadline: a notifier need not notify again. An existing service must have no
+    /// deadline either.
     pub fn disable_deadline(self) -> Self
         ensures { result ≡ with_setting self (EventSetter.Deadline None) }
     {
         self.with(EventSetter::Deadline(None))
     }
 
-    /// Creates the service without attributes: `create_with_attributes` of a specifier that
-    /// defines none.
+    /// Creates the service without attributes, as `create_with_attributes` does with a specifier
+    /// that defines none.
     pub fn create(
         self,
         storage: &mut S::Storage,
@@ -218,17 +226,18 @@ impl<S: Service> Builder<S> {
         self.create_with_attributes(&specifier, storage, now)
     }
 
-    /// Creates the service with these attributes, with the settings as they are but for zeros,
-    /// which become one, and at the time `now` where it has a deadline.
+    /// Creates the service with these attributes and with the settings as they are, except that
+    /// zeros become one. If the service has a deadline, it is created at the time `now`.
     ///
-    /// Refused with `AlreadyExists` where the service exists, with `HangsInCreation` or
-    /// `IsBeingCreatedByAnotherInstance` while somebody else creates it, with
-    /// `ServiceInCorruptedState` where the look finds bytes that are no description, or one of
-    /// another hash, or a storage at fault, where the node is counted though there is no service,
-    /// where a segment can't be cleared away, or where nothing is published, with
-    /// `InternalFailure` where the storage fails or there is no time, and with
-    /// `InsufficientPermissions` or `OutOfMemory` as they say. What a refused call made is given
-    /// back.
+    /// A refused call gives back what it made. The errors:
+    /// - `AlreadyExists`: the service exists.
+    /// - `HangsInCreation`, `IsBeingCreatedByAnotherInstance`: somebody else is creating the
+    ///   service.
+    /// - `ServiceInCorruptedState`: the look finds bytes that are no description, a description of
+    ///   another hash, or a storage at fault; or the node is counted although there is no service;
+    ///   or a segment can't be removed; or nothing is published.
+    /// - `InternalFailure`: the storage fails, or there is no time.
+    /// - `InsufficientPermissions`, `OutOfMemory`: as their names say.
     pub fn create_with_attributes(
         self,
         specifier: &AttributeSpecifier,
@@ -244,8 +253,8 @@ impl<S: Service> Builder<S> {
         into_factory(create_once(demand, caller, specifier.attributes(), storage))
     }
 
-    /// Opens the service, whatever its attributes: `open_with_attributes` of a verifier that
-    /// requires none.
+    /// Opens the service, whatever its attributes, as `open_with_attributes` does with a verifier
+    /// that requires none.
     pub fn open(self, storage: &mut S::Storage) -> Result<PortFactory<S>, EventOpenError>
         ensures { let caller = event_caller S.ServiceNameHasher.hash_of self (Ok zero_span) in
             Joins S.Storage.step storage.old
@@ -259,15 +268,21 @@ impl<S: Service> Builder<S> {
     /// Opens the service, if it has the required attributes and offers each marked setting. The
     /// factory carries the attributes and the settings with which the service was created.
     ///
-    /// Refused with `DoesNotExist` where there is no service, with `IncompatibleAttributes` where it
-    /// lacks a required pair or has no value for a required key, with the setting's error where it
-    /// offers less than is required or another event or deadline, with `ExceedsMaxNumberOfNodes`
-    /// where no further node has room, with `IsMarkedForDestruction` where the last node has left,
-    /// with `HangsInCreation` while it is created, with `ServiceInCorruptedState` where the look
-    /// finds bytes that are no description, or one of another hash, or a storage at fault, where
-    /// its segment isn't there, or where the service is replaced again and again, with
-    /// `InternalFailure` where the storage fails, and with `IncompatibleMessagingPattern`,
-    /// `InsufficientPermissions` or `OutOfMemory` as they say.
+    /// The errors:
+    /// - `DoesNotExist`: there is no service.
+    /// - `IncompatibleAttributes`: the service lacks a required pair, or has no value for a
+    ///   required key.
+    /// - A setting's own error: the service offers less than is required, or another event or
+    ///   deadline.
+    /// - `ExceedsMaxNumberOfNodes`: no further node has room.
+    /// - `IsMarkedForDestruction`: the last node has left.
+    /// - `HangsInCreation`: the service is being created.
+    /// - `ServiceInCorruptedState`: the look finds bytes that are no description, a description of
+    ///   another hash, or a storage at fault; or the service's segment isn't there; or the service
+    ///   is replaced again and again.
+    /// - `InternalFailure`: the storage fails.
+    /// - `IncompatibleMessagingPattern`, `InsufficientPermissions`, `OutOfMemory`: as their names
+    ///   say.
     pub fn open_with_attributes(
         self,
         verifier: &AttributeVerifier,
@@ -283,8 +298,8 @@ impl<S: Service> Builder<S> {
         into_factory(open(&demand, &caller, verifier, storage))
     }
 
-    /// Opens the service, or creates it where there is none, whatever its attributes:
-    /// `open_or_create_with_attributes` of a verifier that requires none.
+    /// Opens the service, or creates it if there is none, whatever its attributes, as
+    /// `open_or_create_with_attributes` does with a verifier that requires none.
     pub fn open_or_create(
         self,
         storage: &mut S::Storage,
@@ -298,15 +313,16 @@ impl<S: Service> Builder<S> {
         self.open_or_create_with_attributes(&verifier, storage, now)
     }
 
-    /// Opens the service as `open_with_attributes` does, or, where there is none, creates it as
+    /// Opens the service as `open_with_attributes` does. If there is none, creates it as
     /// `create_with_attributes` does, with the required pairs. Required keys are not created.
     ///
-    /// Where a create is refused with `AlreadyExists`, `IsBeingCreatedByAnotherInstance` or
-    /// `ServiceInCorruptedState`, or an open with `DoesNotExist`, `ServiceInCorruptedState` or
-    /// `IsMarkedForDestruction`, there is another round, in which zeros that a create raised stay
-    /// raised; after six such rounds it is refused with `SystemInFlux`. Else it is refused with an
-    /// `EventOpenError` where a look finds something wrong or the service isn't opened, and with an
-    /// `EventCreateError` where it isn't created. Each round gives back what it made.
+    /// Another round follows if a create is refused with `AlreadyExists`,
+    /// `IsBeingCreatedByAnotherInstance` or `ServiceInCorruptedState`, or an open with
+    /// `DoesNotExist`, `ServiceInCorruptedState` or `IsMarkedForDestruction`. In that round, zeros
+    /// that a create raised stay raised. After six such rounds the call is refused with
+    /// `SystemInFlux`. Otherwise an `EventOpenError` tells that a look found something wrong or
+    /// that the service isn't opened, and an `EventCreateError` that it isn't created. Each round
+    /// gives back what it made.
     pub fn open_or_create_with_attributes(
         self,
         verifier: &AttributeVerifier,

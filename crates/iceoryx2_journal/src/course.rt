@@ -1,8 +1,9 @@
-//! Which entries lead from one world to a later one.
+//! The entries that lead from one world to a later one.
 //!
-//! A number is handed out by the counter alone, so what has one below the counter of the first world is gone on with,
-//! and what has a later one is made anew, in the order of the numbers. Nothing rests on a course being right: each of
-//! its entries is followed as any other, and who follows it compares the worlds at its end.
+//! The counter alone hands out numbers. So anything with a number below the counter of the first
+//! world goes on, and anything with a later number is made anew, in the order of the numbers.
+//! Nothing rests on a course being right: each of its entries is followed as any other, and its
+//! caller compares the worlds at its end.
 
 mod leaving;
 mod plan;
@@ -16,18 +17,20 @@ use iceoryx2_table::table::stored::StoredWorld;
 use iceoryx2_world::world::{Participant, Phase};
 use std::alloc::{AllocError, Global};
 
-/// What is looked at, one after the other.
+/// The passes over the worlds, one after the other.
 #[derive(Clone, Copy, Debug, PartialEq, Eq)]
 enum Pass {
-    /// Tickets that the later world doesn't have are released, but for the last one of a service that it has.
+    /// Releases the tickets that the later world doesn't have, except the last one of a service
+    /// that it has.
     Leave,
-    /// Each lock, and what the last one to leave has to remove, comes to where the later world has it.
+    /// Brings each lock, and what the last one to leave has to remove, to its state in the later
+    /// world.
     Settle,
-    /// The numbers from the counter on, in ascending order.
+    /// Goes through the numbers from the counter on, in ascending order.
     Number,
-    /// The rest of the tickets that the later world doesn't have is released.
+    /// Releases the rest of the tickets that the later world doesn't have.
     LeaveLast,
-    /// What the last one to leave has to remove comes to where the later world has it.
+    /// Brings what the last one to leave has to remove to its state in the later world.
     Finish,
     RemoveTags,
     MakeTags,
@@ -35,7 +38,7 @@ enum Pass {
 }
 
 impl Pass {
-    /// What is looked at after it.
+    /// Returns the pass after this one.
     fn following(self) -> Pass {
         match self {
             Pass::Leave => Pass::Settle,
@@ -49,7 +52,7 @@ impl Pass {
     }
 }
 
-/// How many passes there are.
+/// The number of passes.
 const PASSES: u8 = 8;
 
 /// No hash is below this one. Numbers are spent under it.
@@ -65,7 +68,7 @@ struct Reached {
 }
 
 impl Reached {
-    /// Nothing yet.
+    /// Returns no key: nothing has been looked at yet.
     fn nothing() -> Reached {
         Reached {
             ticket: 0,
@@ -90,7 +93,7 @@ pub struct Course {
     left: Option<u64>,
 }
 
-/// An entry with these parts.
+/// Returns an entry with these parts.
 fn entry(node: u64, hash: ServiceHash, operation: Operation) -> Entry {
     Entry {
         node,
@@ -99,7 +102,7 @@ fn entry(node: u64, hash: ServiceHash, operation: Operation) -> Entry {
     }
 }
 
-/// How many things stand in a world.
+/// Returns the number of things in a world.
 fn size(world: &StoredWorld) -> u64 {
     let services = (world.rows_held().len() as u64).saturating_add(
         world.segments_held().len() as u64,
@@ -112,8 +115,9 @@ fn size(world: &StoredWorld) -> u64 {
         .saturating_add(world.tags_held().len() as u64)
 }
 
-/// More entries than lead from one world to another. A service takes seven: its lock, the removal of a segment from
-/// before, a segment, a description, a release and two removals. A number that isn't used may be spent before each.
+/// Returns a number greater than that of the entries that lead from one world to another. A service
+/// takes seven: its lock, the removal of a segment from before, a segment, a description, a release
+/// and two removals. A number that isn't used may be spent before each.
 fn most(from: &StoredWorld, to: &StoredWorld) -> u64 {
     size(from)
         .saturating_add(size(to))
@@ -121,7 +125,7 @@ fn most(from: &StoredWorld, to: &StoredWorld) -> u64 {
         .saturating_add(16)
 }
 
-/// Whether the node is registered, or was the last one to leave.
+/// Returns true if the node is registered, or was the last one to leave.
 fn has_joined(phase: Phase) -> bool {
     match phase {
         Phase::Joined(_, _) | Phase::Leaving(_) | Phase::Cleared(_) => true,
@@ -129,7 +133,7 @@ fn has_joined(phase: Phase) -> bool {
     }
 }
 
-/// The number that the last one to leave left.
+/// Returns the number that the last one to leave left.
 fn last_left(phase: Phase) -> Option<u64> {
     match phase {
         Phase::Leaving(number) | Phase::Cleared(number) => Some(number),
@@ -137,14 +141,14 @@ fn last_left(phase: Phase) -> Option<u64> {
     }
 }
 
-/// Where a key stands among the entries, or would stand.
+/// Returns the place of a key among the entries, or the place where it would be.
 fn place_of<K: Ord, V>(entries: &[(K, V)], key: &K) -> usize {
     match entries.binary_search_by(|entry| entry.0.cmp(key)) {
         Ok(at) | Err(at) => at,
     }
 }
 
-/// The entries from this key on.
+/// Returns the entries from this key on.
 fn from_key<'a, K: Ord, V>(entries: &'a [(K, V)], key: &K) -> &'a [(K, V)] {
     match entries.get(place_of(entries, key)..) {
         Some(rest) => rest,
@@ -153,8 +157,8 @@ fn from_key<'a, K: Ord, V>(entries: &'a [(K, V)], key: &K) -> &'a [(K, V)] {
 }
 
 impl Course {
-    /// Nothing has been given yet. By the node `spare`, which must be nobody's, numbers are spent, and locked what
-    /// nobody is known for.
+    /// Returns a course that has given no entry yet. The node `spare`, which must be nobody's,
+    /// spends numbers, and locks services for which no node is known.
     pub fn new(spare: u64) -> Course {
         Course {
             spare,
@@ -166,11 +170,12 @@ impl Course {
         }
     }
 
-    /// The entry to be followed next, or `None` at the end. `Err` without memory: it can be asked again. `from` is the
-    /// world in which each entry that was given has been followed, and `to` the later one, which stays.
+    /// Returns the entry to be followed next, or `None` at the end. `Err` if there is no memory:
+    /// then it can be called again. `from` is the world in which each entry that was given has been
+    /// followed. `to` is the later one, which stays.
     ///
-    /// The number of entries is bounded by the sizes of the worlds. Where `to` isn't later, an entry may be refused, or
-    /// they end in another world.
+    /// The sizes of the worlds bound the number of entries. If `to` isn't later, an entry may be
+    /// refused, or the entries end in another world.
     pub fn next(
         &mut self,
         alloc: Global,

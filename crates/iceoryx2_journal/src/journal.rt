@@ -23,16 +23,19 @@ use iceoryx2_world::listing;
 use std::alloc::{AllocError, Global};
 use std::marker::{Model, PhantomData};
 
-/// A storage that processes share: a log, and the world that this process makes of it. Before each access it takes
-/// over what others appended. An access that is granted and changes something is appended before it changes it.
+/// A storage that processes share: a log, and the world that this process makes of it. Before each
+/// access the journal takes over what others appended. If an access is granted and changes
+/// something, the journal appends it before it changes anything.
 ///
-/// `exists`, `fetch` and `lock` wait while a node has the service's lock, as long as the log pauses. They take over
-/// what others append meanwhile, and answer by that.
+/// `exists`, `fetch` and `lock` wait while a node has the service's lock, as long as the log
+/// pauses. They take over what others append meanwhile, and answer by that.
 ///
-/// Where the log has grown long an access compacts it, and where another process has, it goes to where the log goes on.
+/// If the log has grown long, an access compacts it. If another process has compacted the log, the
+/// access goes to the place where the log goes on.
 ///
-/// Its accesses are in the names of its own nodes. Where an entry of another is in an own node's name, or isn't what
-/// the world answers, the journal is over: each access from then on is its general fault.
+/// A journal's accesses are in the names of its own nodes. If an entry of another process is in an
+/// own node's name, or isn't what the world answers, the journal is over. Each access from then on
+/// answers its general fault.
 pub struct Journal<L> {
     world: StoredWorld,
     recorder: LogRecorder<L>,
@@ -72,7 +75,8 @@ impl<L> Model for Journal<L> {
 }
 
 impl<L> Journal<L> {
-    /// A journal that has taken nothing over yet, with its own nodes and its counter's first value. Takes no memory.
+    /// Returns a journal that has taken nothing over yet, with its own nodes and its counter's
+    /// first value. Takes no memory.
     pub fn starting_at(alloc: Global, log: L, nodes: Vec<u64>, counter: u64) -> Journal<L>
         ensures { result ≡ record {
           world = empty_world counter;
@@ -91,30 +95,31 @@ impl<L> Journal<L> {
         }
     }
 
-    /// Each service with a row or a segment, as far as the log has been taken over, in the order of the hashes' bytes.
-    /// Once the journal is over it is what its world was then.
+    /// Returns each service with a row or a segment, as far as the log has been taken over, in the
+    /// order of the hashes' bytes. Once the journal is over, it returns those of its world at that
+    /// time.
     pub fn list(&self) -> Result<Vec<listing::Entry>, AllocError>
         ensures { IfOk result (λ entries. Lists self.now.world entries.items) }
     {
         self.world.list()
     }
 
-    /// The world as far as the log has been taken over, for its readers. Once the journal is over it is what it was
-    /// then.
+    /// Returns the world as far as the log has been taken over, for its readers. Once the journal
+    /// is over, the world stays as it was then.
     pub fn world(&self) -> &StoredWorld
         ensures { result.now ≡ self.now.world }
     {
         &self.world
     }
 
-    /// Whether an entry ended it.
+    /// Returns true if an entry ended the journal.
     pub fn is_over(&self) -> bool
         ensures { result ≡ self.now.is_over }
     {
         self.is_over
     }
 
-    /// The log.
+    /// Returns the log.
     pub fn log(&self) -> &L
         ensures { result.now ≡ self.now.log }
     {
@@ -130,7 +135,8 @@ impl<L> Journal<L> {
 }
 
 impl<L: Drop> Journal<L> {
-    /// The world as far as the log has been taken over. The journal ends, and appends nothing more.
+    /// Returns the world as far as the log has been taken over. The journal ends, and appends
+    /// nothing more.
     pub fn into_world(self) -> StoredWorld
         ensures { result ≡ self.world }
     {
@@ -201,8 +207,9 @@ impl<L: Log> Journal<L> {
         }
     }
 
-    /// Takes over what others had appended when the log was measured, and reads it while others may go on. Answers
-    /// whether that was all. Else as `catch_up`. Compacts nothing.
+    /// Takes over what others had appended when the log was measured, and reads it while others may
+    /// go on. Returns true if it took over all of that. If not, the journal is as after `catch_up`.
+    /// Compacts nothing.
     pub fn look(&mut self) -> bool
         ensures takes { Begins L.contents true result self.old self.new }
         ensures hold { KeepsHold L.held self.old self.new }
@@ -222,8 +229,9 @@ impl<L: Log> Journal<L> {
         true
     }
 
-    /// Takes over what others appended, and answers whether that was all. It isn't where the log can't be held or read,
-    /// or the journal is over: then it stays as far as it was, or as it came.
+    /// Takes over what others appended, and returns true if it took over all. It doesn't if the log
+    /// can't be held or read, or if the journal is over. Then the journal stays as far as it was,
+    /// or as far as it came.
     pub fn catch_up(&mut self) -> bool
         ensures takes { Begins L.contents true result self.old self.new }
         ensures hold { KeepsHold L.held self.old self.new }
@@ -237,8 +245,8 @@ impl<L: Log> Journal<L> {
         false
     }
 
-    /// Takes over what others appended. Where the log can't be held or read, or the journal is over, it stays as far as
-    /// it was.
+    /// Takes over what others appended. If the log can't be held or read, or the journal is over,
+    /// it stays as far as it was.
     pub fn refresh(&mut self)
         ensures takes { (has_begun : Bool) × Begins L.contents true has_begun self.old self.new }
         ensures hold { KeepsHold L.held self.old self.new }
@@ -302,9 +310,10 @@ impl<L: Log> Journal<L> {
 }
 
 impl<L: SpansCalls> Journal<L> {
-    /// A call of several accesses begins: up to `end_call` its first access takes the log for all of them, and where that
-    /// is refused all are. Without it each access takes the log by itself, and where others keep it in between, a call
-    /// may be refused after some of its accesses: what it leaves then stays until its node settles or is cleaned.
+    /// Begins a call of several accesses. Until `end_call`, its first access takes the log for all
+    /// of them; if that is refused, all are refused. Without this call, each access takes the log
+    /// by itself. If others hold the log in between, a call may be refused after some of its
+    /// accesses. Anything that it leaves then stays until its node settles or is cleaned.
     pub fn begin_call(&mut self)
         ensures spans { Spans L.contents self.old self.new }
         ensures hold { KeepsHold L.held self.old self.new }
@@ -312,7 +321,7 @@ impl<L: SpansCalls> Journal<L> {
         self.recorder.log.begin_call();
     }
 
-    /// The call ends, and others may have the log.
+    /// Ends the call. Others may have the log then.
     pub fn end_call(&mut self)
         ensures spans { Spans L.contents self.old self.new }
         ensures free { L.held self.new.log ≡ false }
@@ -322,7 +331,7 @@ impl<L: SpansCalls> Journal<L> {
     }
 }
 
-/// Services that stand in a [`Journal`] over a log of this type, under hashes by SHA-1.
+/// Services in a [`Journal`] over a log of this type, under hashes by SHA-1.
 pub struct Shared<L> {
     log: PhantomData<L>,
 }

@@ -1,4 +1,4 @@
-//! What is true of every run of a journal.
+//! Laws of every run of a journal.
 
 ghost use Rattle.iceoryx2_journal.specs.Laws.{GoesAmongOthers, GoesUnderInterference, KeepsItsNodes};
 ghost use Rattle.iceoryx2_journal.specs.Laws.{RefusesOtherNodes, StaysOver};
@@ -12,7 +12,7 @@ ghost use Rattle.iceoryx2_journal.specs.Processes.{StandsAcross, CarriesOneAcros
 
 use iceoryx2_log::log::Log;
 
-/// What a word of accesses makes of a journal over any log, whatever stands in it.
+/// The law of a word of accesses of a journal over any log, whatever is in the log.
 pub fn journals<L: Log>()
     // It is accesses of own nodes in its world, of which any may be refused, each after what others do. So it is
     // accesses under interference.
@@ -40,7 +40,7 @@ pub fn journals<L: Log>()
     ensures one { ShowsOneWorld L.contents }
 {}
 
-/// What holds of cleaning up for a node.
+/// Laws of cleaning up for a node.
 pub fn cleaning<L: Log>()
     // Who has nothing holds nothing of any service.
     ensures holds_nothing { HoldsNothing }
@@ -50,17 +50,18 @@ pub fn cleaning<L: Log>()
     ensures spares { SparesOtherNodes }
 {}
 
-/// What entries make of worlds.
+/// Laws of the worlds that entries come to.
 pub fn entries()
     // What worlds come to by the same entries is the same, but for who has only read.
     ensures { OneWorldEach }
 {}
 
-/// What holds of several processes over one log, however many there are.
+/// Laws of several processes over one log, however many there are.
 ///
-/// The premise is that each began in an empty world and has read a front of one list of entries: it has taken these
-/// over, or appended them, or came by a snapshot with which the list begins. The entries of a log are known where its
-/// contract tells them, as a `MemoryLog`'s; a file's never are, and that all its handles read one list is trusted.
+/// The premise is that each process began in an empty world and has read a prefix of one list of
+/// entries. It has taken these entries over, or appended them, or came by a snapshot with which the
+/// list begins. The entries of a log are known if its contract tells them, as a `MemoryLog`'s does.
+/// A file's entries never are, and we trust that all its handles read one list.
 pub fn processes<L: Log>()
     // The world of each agrees.
     ensures agrees { AgreesInEach L.contents }

@@ -1,4 +1,4 @@
-//! What writes an access down in a log before it changes anything.
+//! The recorder that writes an access down in a log before the access changes anything.
 
 ghost use Rattle.std.specs.Prelude.{◌≡◌};
 
@@ -20,7 +20,7 @@ impl<L: Log> Recorder for LogRecorder<L> {
 
     ghost refused = { λ before after. NotAppended L.contents before after };
 
-    /// Appends the entry. Refused where there is none, and where the log refuses.
+    /// Appends the entry. Refused if there is none, or if the log refuses.
     fn write_down(&mut self) -> Result<(), NotWritten> {
         match &self.entry {
             None => Err(NotWritten),

@@ -1,4 +1,5 @@
-//! What a node has besides the factories that it still uses, and what gives that back by the node's own accesses.
+//! Anything that a node has besides the factories that it still uses, and its own accesses that
+//! give that back.
 
 ghost use Rattle.std.specs.Prelude.{◌≡◌};
 ghost use Rattle.std.specs.FinMap as map;
@@ -43,9 +44,10 @@ fn owed_tag(world: &StoredWorld, node: u64) -> Option<Holding>
     }
 }
 
-/// Something that the node has besides the factories with these tickets: its first other ticket; where it has none, the
-/// first service that it is creating or has to remove; where there is none either, its first tag for a service for
-/// which it has no ticket. `None` where it has none of these.
+/// Returns something that the node has besides the factories with these tickets. It is the node's
+/// first other ticket. If there is none, it is the first service that the node is creating or has
+/// to remove. If there is none either, it is the node's first tag for a service for which it has no
+/// ticket. `None` if the node has none of these.
 pub fn owed(world: &StoredWorld, node: u64, spared: &[u64]) -> Option<Holding>
     ensures { IsOwedOrNone world.now node spared.now result }
 {
@@ -58,7 +60,7 @@ pub fn owed(world: &StoredWorld, node: u64, spared: &[u64]) -> Option<Holding>
     owed_tag(world, node)
 }
 
-/// Gives back what the node has, by an access of its own. `None` where that is refused.
+/// Gives back what the node has, by an access of its own. `None` if that is refused.
 pub fn give_back_by<S: Storage>(storage: &mut S, node: u64, held: Holding) -> Option<GivenBack>
     ensures { (l : Letter) × GivesUp node held l × (given_back l ≡ result) × S.step storage.old l storage.new }
 {

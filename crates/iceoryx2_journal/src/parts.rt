@@ -1,5 +1,6 @@
-//! The own parts that others have to know: appended to a log before they change anything. The log is held before each,
-//! and isn't after it. Where it refuses the entry the answer is the access's general fault, and nothing changes.
+//! The own parts of accesses that others have to know. Each is appended to a log before it changes
+//! anything. The log is held before each part, and isn't held after it. If the log refuses the
+//! entry, the answer is the access's general fault, and nothing changes.
 
 ghost use Rattle.std.specs.Prelude.{◌≡◌, false};
 ghost use Rattle.iceoryx2_access.specs.Letter as letter;
@@ -17,7 +18,8 @@ use iceoryx2_log::log::Log;
 use iceoryx2_table::table::stored::StoredWorld;
 use std::alloc::Global;
 
-/// The node has its tag, which is appended where it made it. `Fault` where the log refuses.
+/// Makes the node's tag. If the tag wasn't there, it appends that. Answers `Fault` if the log
+/// refuses.
 pub fn make_tag<L: Log>(
     world: &mut StoredWorld,
     recorder: &mut LogRecorder<L>,
@@ -38,7 +40,8 @@ pub fn make_tag<L: Log>(
     answer
 }
 
-/// The node's tag isn't there any more, which is appended where it was. `Other` where the log refuses.
+/// Removes the node's tag. If the tag was there, it appends that. Answers `Other` if the log
+/// refuses.
 pub fn remove_tag<L: Log>(
     world: &mut StoredWorld,
     recorder: &mut LogRecorder<L>,
@@ -59,7 +62,8 @@ pub fn remove_tag<L: Log>(
     answer
 }
 
-/// The node holds the lock, whose number is the counter before. `Other` where the log refuses.
+/// Takes the lock for the node. The lock's number is the counter's value before. Answers `Other` if
+/// the log refuses.
 pub fn lock<L: Log>(
     world: &mut StoredWorld,
     recorder: &mut LogRecorder<L>,
@@ -81,7 +85,7 @@ pub fn lock<L: Log>(
     answer
 }
 
-/// There is a segment for so many nodes. `Other` where the log refuses.
+/// Makes a segment for so many nodes. Answers `Other` if the log refuses.
 pub fn make_segment<L: Log>(
     world: &mut StoredWorld,
     recorder: &mut LogRecorder<L>,
@@ -104,7 +108,7 @@ pub fn make_segment<L: Log>(
     answer
 }
 
-/// The segment isn't there any more. `Other` where the log refuses.
+/// Removes the segment. Answers `Other` if the log refuses.
 pub fn remove_segment<L: Log>(
     world: &mut StoredWorld,
     recorder: &mut LogRecorder<L>,
@@ -125,7 +129,7 @@ pub fn remove_segment<L: Log>(
     answer
 }
 
-/// Nothing is written under the hash any more. `Other` where the log refuses.
+/// Removes what is written under the hash. Answers `Other` if the log refuses.
 pub fn remove_description<L: Log>(
     world: &mut StoredWorld,
     recorder: &mut LogRecorder<L>,
@@ -146,8 +150,8 @@ pub fn remove_description<L: Log>(
     answer
 }
 
-/// The description is published, and its byte form appended. `Other` where that finds no memory, and where the log
-/// refuses.
+/// Publishes the description, and appends its byte form. Answers `Other` if there is no memory for
+/// the byte form, or if the log refuses.
 pub fn publish<L: Log>(
     alloc: Global,
     world: &mut StoredWorld,
@@ -178,7 +182,8 @@ pub fn publish<L: Log>(
     answer
 }
 
-/// The node has a ticket, which is the counter before. `Failed` where the log refuses.
+/// Opens the segment for the node. The node's ticket is the counter's value before. Answers
+/// `Failed` if the log refuses.
 pub fn open_segment<L: Log>(
     world: &mut StoredWorld,
     recorder: &mut LogRecorder<L>,
@@ -201,7 +206,7 @@ pub fn open_segment<L: Log>(
     answer
 }
 
-/// The ticket isn't there any more. `NoSuchTicket` where the log refuses.
+/// Releases the ticket. Answers `NoSuchTicket` if the log refuses.
 pub fn release<L: Log>(
     world: &mut StoredWorld,
     recorder: &mut LogRecorder<L>,

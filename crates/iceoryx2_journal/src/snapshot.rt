@@ -1,5 +1,5 @@
-//! Snapshots: entries that come to the world of a whole log. They are written where a log is compacted, and read where
-//! it goes on.
+//! Snapshots: entries that come to the world of a whole log. A process writes one when it compacts
+//! a log, and reads one at the place where a log goes on.
 
 ghost use Rattle.std.specs.Prelude.{◌≡◌, List, IfOk, IfSome, OnOk, None, false};
 ghost use Rattle.iceoryx2_log.specs.declared.entry.Entry as declared;
@@ -17,10 +17,10 @@ use iceoryx2_log::log::Log;
 use iceoryx2_table::table::stored::StoredWorld;
 use std::alloc::Global;
 
-/// With which number the counter of a snapshot begins.
+/// The number with which the counter of a snapshot begins.
 const FIRST_NUMBER: u64 = 0;
 
-/// By which node a snapshot's numbers are spent.
+/// The node that spends a snapshot's numbers.
 const SPENDING_NODE: u64 = 0;
 
 // What is made of an entry that isn't followed.
@@ -164,9 +164,10 @@ fn restored<L: Log>(alloc: Global, log: &mut L, counter: u64) -> Result<StoredWo
     Ok(world)
 }
 
-/// Goes to where the log goes on, and from the world to what the snapshot there comes to, by what others did meanwhile.
-/// `Later` where the log can't be held or read there or there is no memory, and it has to be done again. `Over` where
-/// the snapshot is none, or comes to a world to which nobody but own nodes leads.
+/// Goes to the place where the log goes on, and brings the world to that of the snapshot there, by
+/// what others did meanwhile. `Later` if the log can't be held or read there or there is no memory:
+/// then it has to be called again. `Over` if the snapshot is none, or comes to a world to which
+/// only own nodes lead.
 pub fn catch_up<L: Log>(
     alloc: Global,
     world: &mut StoredWorld,
@@ -241,8 +242,8 @@ fn snapshot_of(alloc: Global, world: &StoredWorld) -> Result<Vec<Entry>, Stop>
     }
 }
 
-/// Compacts a log that is long, is held, and of which all is taken over: it goes on in a new place, whose snapshot
-/// stands for the world. Where anything refuses the log stays as it is.
+/// Compacts a log that is long and held, and all of which is taken over. The log goes on in a new
+/// place, whose snapshot stands for the world. If anything refuses, the log stays as it is.
 pub fn compact<L: Log>(alloc: Global, world: &StoredWorld, log: &mut L)
     ensures { WhereKnown (IsCompacted world.now) (L.contents log.old) (L.contents log.new) }
 {

@@ -9,22 +9,22 @@ use iceoryx2_log::log::{Log, LogError};
 use iceoryx2_table::table::stored::StoredWorld;
 use std::alloc::Global;
 
-/// How often one access goes to where the log goes on, before it gives up.
+/// The number of times that one access goes to the place where the log goes on, before it gives up.
 const MOVES: u32 = 64;
 
-/// Why an entry isn't taken over.
+/// The reason why an entry isn't taken over.
 #[derive(Clone, Copy, Debug, PartialEq, Eq)]
 pub enum Stop {
     /// The log can't be held or read, or there is no memory. It may go on later.
     Later,
     /// The log goes on in another place.
     Moved,
-    /// The entry is in an own node's name, or the table doesn't answer what it has.
+    /// The entry is in an own node's name, or the table doesn't answer what the entry says.
     Over,
 }
 
 impl Stop {
-    /// Whether nothing is taken over from then on.
+    /// Returns true if nothing is taken over from then on.
     pub fn ends(self) -> bool
         ensures { result ≡ ends self }
     {
@@ -36,17 +36,17 @@ impl Stop {
     }
 }
 
-/// What became of the next entry.
+/// The outcome of taking the next entry over.
 pub enum Next {
-    /// It has had its effect, and is read.
+    /// The entry has had its effect, and is read.
     Taken,
-    /// There is none.
+    /// There is no next entry.
     Nothing,
-    /// It stays unread.
+    /// The entry stays unread.
     Stopped(Stop),
 }
 
-/// Why nothing is taken over where the log refuses to be read.
+/// Returns the reason why nothing is taken over if the log refuses to be read.
 fn stop_for(error: LogError) -> Stop
     ensures { ends result ≡ false }
 {
@@ -56,15 +56,15 @@ fn stop_for(error: LogError) -> Stop
     }
 }
 
-/// Whether the node is one of these.
+/// Returns true if the node is one of these.
 pub fn has(nodes: &[u64], node: u64) -> bool
     ensures { result ≡ is_own nodes.now node }
 {
     nodes.iter().any(|own| node == *own)
 }
 
-/// Takes the next entry over, where there is one. Memory for it is had before it is read. The log stays as it was where
-/// it isn't taken over.
+/// Takes the next entry over, if there is one. It gets the memory for the entry before it reads the
+/// entry. If the entry isn't taken over, the log stays as it was.
 pub fn take_next<L: Log>(alloc: Global, world: &mut StoredWorld, log: &mut L, nodes: &[u64]) -> Next
     ensures takes { TakesNext nodes.now result world.old world.new (L.contents log.old) (L.contents log.new) }
     ensures later { IsLaterFor nodes.now (L.shown log.new) result world.old world.new (L.contents log.new) }
@@ -130,8 +130,8 @@ fn take_round<L: Log>(
     }
 }
 
-/// Takes all over, wherever the log goes on. `is_lost` is whether it goes on elsewhere, and the world isn't yet what it
-/// comes to there.
+/// Takes all over, wherever the log goes on. `is_lost` is true if the log goes on elsewhere, and
+/// the world isn't yet what the log comes to there.
 pub fn take_over<L: Log>(
     alloc: Global,
     world: &mut StoredWorld,
@@ -152,8 +152,8 @@ pub fn take_over<L: Log>(
     Err(Stop::Later)
 }
 
-/// Takes all entries over, in order, until there is none or one isn't taken over. That one stays unread, and those
-/// after it.
+/// Takes all entries over, in order, until there is none or one isn't taken over. That entry and
+/// those after it stay unread.
 pub fn take_all<L: Log>(
     alloc: Global,
     world: &mut StoredWorld,

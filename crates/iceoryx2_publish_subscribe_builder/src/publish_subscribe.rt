@@ -49,7 +49,7 @@ use iceoryx2_types::types::{
 use std::alloc::AllocError;
 use std::marker::{Model, PhantomData};
 
-/// The prefix that stands before a name in the hash of a service of publish-subscribe.
+/// The prefix of a name in the hash of a service of publish-subscribe.
 pub const PREFIX: u8 = b'p';
 
 /// The prefix is `p`.
@@ -57,17 +57,18 @@ pub fn prefix_is_p()
     ensures { PREFIX ≡ 112 }
 {}
 
-/// What holds of each builder of publish-subscribe, whatever the types of its messages.
+/// The law of each builder of publish-subscribe, whatever the types of its messages: it opens what
+/// it creates.
 ///
-/// With its adjusted settings a create publishes for one node or more, and what the same builder
-/// opens, if the defined pairs meet the attributes that the open requires: it fits it and meets
-/// each setting that it requires.
+/// With its adjusted settings a create publishes for one node or more. The same builder opens what
+/// the create publishes, if the defined pairs meet the attributes that the open requires: it fits
+/// the open and meets each setting that the open requires.
 pub fn opens_what_it_creates()
     ensures { (demand : PublishSubscribeDemand) (message : Message)
         → IsLawfulBuilder (publish_subscribe_creating demand message) (publish_subscribe_opening demand message) }
 {}
 
-/// What a table that nobody else uses refuses is not tried again by an open or create.
+/// If a table that nobody else uses refuses a call, an open or create doesn't try again.
 pub fn ends_at_once()
     ensures { (demand : PublishSubscribeDemand) (message : Message) (defined : List Pair) (required : Requirements)
         → EndsAtOnce publish_subscribe_retried
@@ -76,10 +77,10 @@ pub fn ends_at_once()
 
 /// A builder of a service of publish-subscribe with payloads `P` and user headers `U`.
 ///
-/// A setter of a setting sets the value with which a service is created, and marks the setting, so
-/// that an existing service has to offer as much to be opened. The last value that is set stands.
-/// The types of the messages are no settings: an existing service's have to be those of the
-/// builder, with user header and payload aligned at least as far.
+/// A setter of a setting sets the value that a create uses, and marks the setting: an open then
+/// requires that the existing service offers as much. If a setter is called more than once, the
+/// last value counts. The types of the messages are no settings. An existing service's types have
+/// to be those of the builder, with user header and payload aligned at least as far.
 ///
 /// An example: `crates/examples/src/publish_subscribe.rt`.
 pub struct Builder<P, U, S: Service> {
@@ -120,7 +121,7 @@ impl<P, U, S: Service> Clone for Builder<P, U, S> {
 
     ghost is_clone = { λ builder copy. copy ≡ builder };
 
-    /// `AllocError` where there was no memory for the name of the service or those of types.
+    /// Returns `AllocError` if there was no memory for the name of the service or those of types.
     fn clone(&self) -> Result<Builder<P, U, S>, AllocError> {
         Ok(Builder {
             base: self.base.clone()?,
@@ -133,8 +134,8 @@ impl<P, U, S: Service> Clone for Builder<P, U, S> {
 }
 
 impl<P: ZeroCopySend, S: Service> Builder<P, (), S> {
-    /// A builder with these settings, of which none is required, and with messages without a user
-    /// header.
+    /// Returns a builder with these settings, for messages without a user header. None of the
+    /// settings is required.
     pub fn new(base: BuilderWithServiceType<S>, defaults: config::PublishSubscribe) -> Self
         ensures { result ≡ fresh_builder base.node base.name defaults }
     {
@@ -147,7 +148,7 @@ impl<P: ZeroCopySend, S: Service> Builder<P, (), S> {
 }
 
 impl<S: Service> Builder<Slice<CustomPayloadMarker>, CustomHeaderMarker, S> {
-    /// Carries out one setter, by its name.
+    /// Calls one setter, by its name.
     pub fn with(self, setting: PublishSubscribeSetter) -> Self
         ensures { result ≡ with_setting self setting }
     {
@@ -156,7 +157,7 @@ impl<S: Service> Builder<Slice<CustomPayloadMarker>, CustomHeaderMarker, S> {
 }
 
 impl<U: ZeroCopySend, S: Service> Builder<Slice<CustomPayloadMarker>, U, S> {
-    /// The type that stands in place of the payload's marker.
+    /// Sets the type that is used instead of the payload's marker.
     /// Hidden in iceoryx2.
     pub fn internal_set_payload_type_details(self, value: TypeDetail) -> Self
         ensures { result ≡ with_setting self (PublishSubscribeSetter.PayloadType value) }
@@ -166,7 +167,7 @@ impl<U: ZeroCopySend, S: Service> Builder<Slice<CustomPayloadMarker>, U, S> {
 }
 
 impl<P: ZeroCopySend, S: Service> Builder<P, CustomHeaderMarker, S> {
-    /// The type that stands in place of the user header's marker.
+    /// Sets the type that is used instead of the user header's marker.
     /// Hidden in iceoryx2.
     pub fn internal_set_user_header_type_details(self, value: TypeDetail) -> Self
         ensures { result ≡ with_setting self (PublishSubscribeSetter.UserHeaderType value) }
@@ -192,7 +193,7 @@ impl<P: ZeroCopySend, U: ZeroCopySend, S: Service> Builder<P, U, S> {
         }
     }
 
-    /// Carries out one setter, whatever the types are: sets the value, and marks a setting.
+    /// Calls one setter, whatever the types are: sets the value, and marks a setting.
     fn set(mut self, setting: PublishSubscribeSetter) -> Self
         ensures { result ≡ with_setting self setting }
     {
@@ -217,66 +218,68 @@ impl<P: ZeroCopySend, U: ZeroCopySend, S: Service> Builder<P, U, S> {
         self
     }
 
-    /// For how many publishers the service is. Zero is one in a create.
+    /// Sets the number of publishers that the service has room for. A create takes zero as one.
     pub fn max_publishers(self, value: u64) -> Self
         ensures { result ≡ with_setting self (PublishSubscribeSetter.MaxPublishers value) }
     {
         self.set(PublishSubscribeSetter::MaxPublishers(value))
     }
 
-    /// For how many subscribers the service is. Zero is one in a create.
+    /// Sets the number of subscribers that the service has room for. A create takes zero as one.
     pub fn max_subscribers(self, value: u64) -> Self
         ensures { result ≡ with_setting self (PublishSubscribeSetter.MaxSubscribers value) }
     {
         self.set(PublishSubscribeSetter::MaxSubscribers(value))
     }
 
-    /// How many samples a subscriber's buffer has room for. Zero is one in a create.
+    /// Sets the number of samples that a subscriber's buffer has room for. A create takes zero as
+    /// one.
     pub fn subscriber_max_buffer_size(self, value: u64) -> Self
         ensures { result ≡ with_setting self (PublishSubscribeSetter.SubscriberMaxBufferSize value) }
     {
         self.set(PublishSubscribeSetter::SubscriberMaxBufferSize(value))
     }
 
-    /// How many of the last samples a subscriber gets that comes later. Without safe overflow its
-    /// buffer has to have room for them.
+    /// Sets the number of the last samples that a subscriber gets when it joins later. Without safe
+    /// overflow, the subscriber's buffer has to have room for them.
     pub fn history_size(self, value: u64) -> Self
         ensures { result ≡ with_setting self (PublishSubscribeSetter.HistorySize value) }
     {
         self.set(PublishSubscribeSetter::HistorySize(value))
     }
 
-    /// How many samples a subscriber may borrow at one time. Zero is one in a create.
+    /// Sets the number of samples that a subscriber may borrow at one time. A create takes zero as
+    /// one.
     pub fn subscriber_max_borrowed_samples(self, value: u64) -> Self
         ensures { result ≡ with_setting self (PublishSubscribeSetter.SubscriberMaxBorrowedSamples value) }
     {
         self.set(PublishSubscribeSetter::SubscriberMaxBorrowedSamples(value))
     }
 
-    /// Whether a full buffer's oldest sample gives way to a new one. An existing service has to do
-    /// the same.
+    /// Sets whether the oldest sample of a full buffer gives way to a new one. An existing service
+    /// has to do the same.
     pub fn enable_safe_overflow(self, value: bool) -> Self
         ensures { result ≡ with_setting self (PublishSubscribeSetter.EnableSafeOverflow value) }
     {
         self.set(PublishSubscribeSetter::EnableSafeOverflow(value))
     }
 
-    /// For how many nodes the service is. Zero is one in a create.
+    /// Sets the number of nodes that the service has room for. A create takes zero as one.
     pub fn max_nodes(self, value: u64) -> Self
         ensures { result ≡ with_setting self (PublishSubscribeSetter.MaxNodes value) }
     {
         self.set(PublishSubscribeSetter::MaxNodes(value))
     }
 
-    /// How far the payload is aligned at least, in bytes; it stays aligned as far as its type says.
-    /// It marks no setting, and the last one that was asked stands.
+    /// Sets the least alignment of the payload, in bytes. The payload stays aligned as far as its
+    /// type says. This marks no setting. If it is called more than once, the last alignment counts.
     pub fn payload_alignment(self, value: Alignment) -> Self
         ensures { result ≡ with_setting self (PublishSubscribeSetter.PayloadAlignment value) }
     {
         self.set(PublishSubscribeSetter::PayloadAlignment(value))
     }
 
-    /// The same builder for messages with another user header.
+    /// Returns the same builder for messages with another user header.
     pub fn user_header<M: ZeroCopySend>(self) -> Builder<P, M, S>
         ensures { result ≡ self }
     {
@@ -290,8 +293,8 @@ impl<P: ZeroCopySend, U: ZeroCopySend, S: Service> Builder<P, U, S> {
         Builder::from_parts(base, demand, types)
     }
 
-    /// Who calls, at the time zero, and what the call asks, with its types made. `AllocError` where there was
-    /// no memory for their names.
+    /// Returns the caller, at the time zero, and what the call asks, with its types made.
+    /// `AllocError` if there was no memory for their names.
     fn into_prepared(self) -> Result<(Caller, PreparedDemand), AllocError>
         ensures { let message = message_for P.detail U.detail self.types in
             IfOk result (λ made. (made.0 ≡ publish_subscribe_caller S.ServiceNameHasher.hash_of self)
@@ -309,8 +312,8 @@ impl<P: ZeroCopySend, U: ZeroCopySend, S: Service> Builder<P, U, S> {
         Ok((caller, PreparedDemand { demand, message }))
     }
 
-    /// Creates the service without attributes: `create_with_attributes` of a specifier that
-    /// defines none.
+    /// Creates the service without attributes, as `create_with_attributes` does with a specifier
+    /// that defines none.
     pub fn create(
         self,
         storage: &mut S::Storage,
@@ -325,18 +328,21 @@ impl<P: ZeroCopySend, U: ZeroCopySend, S: Service> Builder<P, U, S> {
         self.create_with_attributes(&specifier, storage)
     }
 
-    /// Creates the service with these attributes, with the settings as they are but for zeros,
-    /// which become one in all but the history, and with the prepared types.
+    /// Creates the service with these attributes, with the prepared types, and with the settings as
+    /// they are, except that zeros become one in all settings but the history.
     ///
-    /// Refused with `OutOfMemory` where there was no memory for the types, with
-    /// `SubscriberBufferMustBeLargerThanHistorySize` where without safe overflow the buffer has less
-    /// room than the history wants, both before any access; with `AlreadyExists` where there is a
-    /// service, with `HangsInCreation` or `IsBeingCreatedByAnotherInstance` while another one
-    /// creates it, with `ServiceInCorruptedState` where the look finds bytes that are no
-    /// description, or one of another hash, or a storage at fault, where the node is counted though
-    /// there is no service, where a segment can't be cleared away, or where nothing is published,
-    /// with `InternalFailure` where the storage fails, and with `InsufficientPermissions` or
-    /// `OutOfMemory` as they say.
+    /// The errors:
+    /// - `OutOfMemory`, before any access: there was no memory for the types.
+    /// - `SubscriberBufferMustBeLargerThanHistorySize`, before any access: without safe overflow
+    ///   the buffer has less room than the history needs.
+    /// - `AlreadyExists`: there is a service.
+    /// - `HangsInCreation`, `IsBeingCreatedByAnotherInstance`: somebody else is creating the
+    ///   service.
+    /// - `ServiceInCorruptedState`: the look finds bytes that are no description, a description of
+    ///   another hash, or a storage at fault; or the node is counted although there is no service;
+    ///   or a segment can't be removed; or nothing is published.
+    /// - `InternalFailure`: the storage fails.
+    /// - `InsufficientPermissions`, `OutOfMemory`: as their names say.
     pub fn create_with_attributes(
         self,
         specifier: &AttributeSpecifier,
@@ -354,8 +360,8 @@ impl<P: ZeroCopySend, U: ZeroCopySend, S: Service> Builder<P, U, S> {
         into_factory(create_once(asked, caller, specifier.attributes(), storage))
     }
 
-    /// Opens the service, whatever its attributes: `open_with_attributes` of a verifier that
-    /// requires none.
+    /// Opens the service, whatever its attributes, as `open_with_attributes` does with a verifier
+    /// that requires none.
     pub fn open(
         self,
         storage: &mut S::Storage,
@@ -370,20 +376,26 @@ impl<P: ZeroCopySend, U: ZeroCopySend, S: Service> Builder<P, U, S> {
         self.open_with_attributes(&verifier, storage)
     }
 
-    /// Opens the service, if its messages' types are those of the builder, it has the required
-    /// attributes and offers each marked setting. The factory carries the attributes, the settings
-    /// and the types with which the service was created.
+    /// Opens the service, if its messages' types are those of the builder, and if it has the
+    /// required attributes and offers each marked setting. The factory carries the attributes, the
+    /// settings and the types with which the service was created.
     ///
-    /// Refused with `OutOfMemory` where there was no memory for the types, before any access; with
-    /// `DoesNotExist` where there is no service, with `IncompatibleTypes` where its messages' types
-    /// are others, with `IncompatibleAttributes` where it lacks a required pair or has no value for
-    /// a required key, with the setting's error where it offers less than is required or another
-    /// overflow, with `ExceedsMaxNumberOfNodes` where no further node has room, with
-    /// `IsMarkedForDestruction` where the last node has left, with `HangsInCreation` while it is
-    /// created, with `ServiceInCorruptedState` where the look finds bytes that are no description,
-    /// or one of another hash, or a storage at fault, where its segment isn't there, or where the
-    /// service is replaced again and again, with `InternalFailure` where the storage fails, and
-    /// with `IncompatibleMessagingPattern`, `InsufficientPermissions` or `OutOfMemory` as they say.
+    /// The errors:
+    /// - `OutOfMemory`, before any access: there was no memory for the types.
+    /// - `DoesNotExist`: there is no service.
+    /// - `IncompatibleTypes`: the service's messages have other types.
+    /// - `IncompatibleAttributes`: the service lacks a required pair, or has no value for a
+    ///   required key.
+    /// - A setting's own error: the service offers less than is required, or another overflow.
+    /// - `ExceedsMaxNumberOfNodes`: no further node has room.
+    /// - `IsMarkedForDestruction`: the last node has left.
+    /// - `HangsInCreation`: the service is being created.
+    /// - `ServiceInCorruptedState`: the look finds bytes that are no description, a description of
+    ///   another hash, or a storage at fault; or the service's segment isn't there; or the service
+    ///   is replaced again and again.
+    /// - `InternalFailure`: the storage fails.
+    /// - `IncompatibleMessagingPattern`, `InsufficientPermissions`, `OutOfMemory`: as their names
+    ///   say.
     pub fn open_with_attributes(
         self,
         verifier: &AttributeVerifier,
@@ -401,8 +413,8 @@ impl<P: ZeroCopySend, U: ZeroCopySend, S: Service> Builder<P, U, S> {
         into_factory(open(&asked, &caller, verifier, storage))
     }
 
-    /// Opens the service, or creates it where there is none, whatever its attributes:
-    /// `open_or_create_with_attributes` of a verifier that requires none.
+    /// Opens the service, or creates it if there is none, whatever its attributes, as
+    /// `open_or_create_with_attributes` does with a verifier that requires none.
     pub fn open_or_create(
         self,
         storage: &mut S::Storage,
@@ -417,17 +429,17 @@ impl<P: ZeroCopySend, U: ZeroCopySend, S: Service> Builder<P, U, S> {
         self.open_or_create_with_attributes(&verifier, storage)
     }
 
-    /// Opens the service as `open_with_attributes` does, or, where there is none, creates it as
+    /// Opens the service as `open_with_attributes` does. If there is none, creates it as
     /// `create_with_attributes` does, with the required pairs. Required keys are not created. The
     /// types are prepared once.
     ///
-    /// Where an open is refused with `DoesNotExist`, `ServiceInCorruptedState` or
-    /// `IsMarkedForDestruction`, or a create with `AlreadyExists`,
-    /// `IsBeingCreatedByAnotherInstance` or `ServiceInCorruptedState`, there is another round, in
-    /// which zeros that the create raised stay raised; after six such rounds it is refused with
-    /// `SystemInFlux`. Else it is refused with a `PublishSubscribeOpenError` where there was no
-    /// memory for the types, a look finds something wrong or the service isn't opened, and with a
-    /// `PublishSubscribeCreateError` where it isn't created. Each round gives back what it made.
+    /// Another round follows if an open is refused with `DoesNotExist`, `ServiceInCorruptedState`
+    /// or `IsMarkedForDestruction`, or a create with `AlreadyExists`,
+    /// `IsBeingCreatedByAnotherInstance` or `ServiceInCorruptedState`. In that round, zeros that
+    /// the create raised stay raised. After six such rounds the call is refused with
+    /// `SystemInFlux`. Otherwise a `PublishSubscribeOpenError` tells that there was no memory for
+    /// the types, that a look found something wrong or that the service isn't opened, and a
+    /// `PublishSubscribeCreateError` that it isn't created. Each round gives back what it made.
     pub fn open_or_create_with_attributes(
         self,
         verifier: &AttributeVerifier,

@@ -50,7 +50,7 @@ use iceoryx2_types::types::{
 use std::alloc::AllocError;
 use std::marker::{Model, PhantomData};
 
-/// The prefix that stands before a name in the hash of a service of request-response.
+/// The prefix of a name in the hash of a service of request-response.
 pub const PREFIX: u8 = b'r';
 
 /// The prefix is `r`.
@@ -58,17 +58,18 @@ pub fn prefix_is_r()
     ensures { PREFIX ≡ 114 }
 {}
 
-/// What holds of each builder of request-response, whatever the types of its messages.
+/// The law of each builder of request-response, whatever the types of its messages: it opens what
+/// it creates.
 ///
-/// With its adjusted settings a create publishes for one node or more, and what the same builder
-/// opens, if the defined pairs meet the attributes that the open requires: it fits it and meets
-/// each setting that it requires.
+/// With its adjusted settings a create publishes for one node or more. The same builder opens what
+/// the create publishes, if the defined pairs meet the attributes that the open requires: it fits
+/// the open and meets each setting that the open requires.
 pub fn opens_what_it_creates()
     ensures { (demand : RequestResponseDemand) (request response : Message) → IsLawfulBuilder
         (request_response_creating demand request response) (request_response_opening demand request response) }
 {}
 
-/// What a table that nobody else uses refuses is not tried again by an open or create.
+/// If a table that nobody else uses refuses a call, an open or create doesn't try again.
 pub fn ends_at_once()
     ensures { (demand : RequestResponseDemand) (request response : Message) (defined : List Pair)
         (required : Requirements) → EndsAtOnce request_response_retried
@@ -76,13 +77,13 @@ pub fn ends_at_once()
         (request_response_opening demand request response required) }
 {}
 
-/// A builder of a service of request-response whose requests have payloads `Q` and user headers
-/// `QU`, and its responses payloads `R` and user headers `RU`.
+/// A builder of a service of request-response. Its requests have payloads `Q` and user headers
+/// `QU`, and its responses have payloads `R` and user headers `RU`.
 ///
-/// A setter of a setting sets the value with which a service is created, and marks the setting, so
-/// that an existing service has to offer as much to be opened. The last value that is set stands.
-/// The types of the messages are no settings: an existing service's have to be those of the
-/// builder, with user headers and payloads aligned at least as far.
+/// A setter of a setting sets the value that a create uses, and marks the setting: an open then
+/// requires that the existing service offers as much. If a setter is called more than once, the
+/// last value counts. The types of the messages are no settings. An existing service's types have
+/// to be those of the builder, with user headers and payloads aligned at least as far.
 ///
 /// An example: `crates/examples/src/request_response.rt`.
 pub struct Builder<Q, QU, R, RU, S: Service> {
@@ -121,7 +122,7 @@ impl<Q, QU, R, RU, S: Service> Clone for Builder<Q, QU, R, RU, S> {
 
     ghost is_clone = { λ builder copy. copy ≡ builder };
 
-    /// `AllocError` where there was no memory for the name of the service or those of types.
+    /// Returns `AllocError` if there was no memory for the name of the service or those of types.
     fn clone(&self) -> Result<Builder<Q, QU, R, RU, S>, AllocError> {
         Ok(Builder {
             base: self.base.clone()?,
@@ -133,8 +134,8 @@ impl<Q, QU, R, RU, S: Service> Clone for Builder<Q, QU, R, RU, S> {
 }
 
 impl<Q: ZeroCopySend, R: ZeroCopySend, S: Service> Builder<Q, (), R, (), S> {
-    /// A builder with these settings, of which none is required, and with messages without user
-    /// headers.
+    /// Returns a builder with these settings, for messages without user headers. None of the
+    /// settings is required.
     pub fn new(base: BuilderWithServiceType<S>, defaults: config::RequestResponse) -> Self
         ensures { result ≡ fresh_builder base.node base.name defaults }
     {
@@ -153,14 +154,14 @@ impl<S: Service> Builder<
     CustomHeaderMarker,
     S,
 > {
-    /// Carries out one setter, by its name.
+    /// Calls one setter, by its name.
     pub fn with(self, setting: RequestResponseSetter) -> Self
         ensures { result ≡ with_setting self setting }
     {
         self.set(setting)
     }
 
-    /// The type that stands in place of the marker of a request's payload.
+    /// Sets the type that is used instead of the marker of a request's payload.
     /// Hidden in iceoryx2.
     pub fn internal_set_request_payload_type_details(self, value: TypeDetail) -> Self
         ensures { result ≡ with_setting self (RequestResponseSetter.RequestPayloadType value) }
@@ -168,7 +169,7 @@ impl<S: Service> Builder<
         self.set(Set::RequestPayloadType(value))
     }
 
-    /// The type that stands in place of the marker of a request's user header.
+    /// Sets the type that is used instead of the marker of a request's user header.
     /// Hidden in iceoryx2.
     pub fn internal_set_request_header_type_details(self, value: TypeDetail) -> Self
         ensures { result ≡ with_setting self (RequestResponseSetter.RequestHeaderType value) }
@@ -176,7 +177,7 @@ impl<S: Service> Builder<
         self.set(Set::RequestHeaderType(value))
     }
 
-    /// The type that stands in place of the marker of a response's payload.
+    /// Sets the type that is used instead of the marker of a response's payload.
     /// Hidden in iceoryx2.
     pub fn internal_set_response_payload_type_details(self, value: TypeDetail) -> Self
         ensures { result ≡ with_setting self (RequestResponseSetter.ResponsePayloadType value) }
@@ -184,7 +185,7 @@ impl<S: Service> Builder<
         self.set(Set::ResponsePayloadType(value))
     }
 
-    /// The type that stands in place of the marker of a response's user header.
+    /// Sets the type that is used instead of the marker of a response's user header.
     /// Hidden in iceoryx2.
     pub fn internal_set_response_header_type_details(self, value: TypeDetail) -> Self
         ensures { result ≡ with_setting self (RequestResponseSetter.ResponseHeaderType value) }
@@ -215,7 +216,7 @@ impl<Q: ZeroCopySend, QU: ZeroCopySend, R: ZeroCopySend, RU: ZeroCopySend, S: Se
         }
     }
 
-    /// Carries out one setter, whatever the types are: sets the value, and marks a setting.
+    /// Calls one setter, whatever the types are: sets the value, and marks a setting.
     fn set(mut self, setting: RequestResponseSetter) -> Self
         ensures { result ≡ with_setting self setting }
     {
@@ -246,96 +247,101 @@ impl<Q: ZeroCopySend, QU: ZeroCopySend, R: ZeroCopySend, RU: ZeroCopySend, S: Se
         self
     }
 
-    /// Whether a full buffer's oldest request gives way to a new one. An existing service has to do
-    /// the same.
+    /// Sets whether the oldest request of a full buffer gives way to a new one. An existing service
+    /// has to do the same.
     pub fn enable_safe_overflow_for_requests(self, value: bool) -> Self
         ensures { result ≡ with_setting self (RequestResponseSetter.EnableSafeOverflowForRequests value) }
     {
         self.set(Set::EnableSafeOverflowForRequests(value))
     }
 
-    /// Whether a full buffer's oldest response gives way to a new one. An existing service has to
-    /// do the same.
+    /// Sets whether the oldest response of a full buffer gives way to a new one. An existing
+    /// service has to do the same.
     pub fn enable_safe_overflow_for_responses(self, value: bool) -> Self
         ensures { result ≡ with_setting self (RequestResponseSetter.EnableSafeOverflowForResponses value) }
     {
         self.set(Set::EnableSafeOverflowForResponses(value))
     }
 
-    /// Whether a request may be sent whose responses nobody waits for. An existing service has to
-    /// allow the same.
+    /// Sets whether a client may send a request without waiting for its responses. An existing
+    /// service has to allow the same.
     pub fn enable_fire_and_forget_requests(self, value: bool) -> Self
         ensures { result ≡ with_setting self (RequestResponseSetter.EnableFireAndForgetRequests value) }
     {
         self.set(Set::EnableFireAndForgetRequests(value))
     }
 
-    /// How many requests a client may have under way at one time. Zero is one in a create.
+    /// Sets the number of requests that a client may have under way at one time. A create takes
+    /// zero as one.
     pub fn max_active_requests_per_client(self, value: u64) -> Self
         ensures { result ≡ with_setting self (RequestResponseSetter.MaxActiveRequestsPerClient value) }
     {
         self.set(Set::MaxActiveRequestsPerClient(value))
     }
 
-    /// How many requests a client may have on loan at one time. Zero is one in a create.
+    /// Sets the number of requests that a client may have on loan at one time. A create takes zero
+    /// as one.
     pub fn max_loaned_requests(self, value: u64) -> Self
         ensures { result ≡ with_setting self (RequestResponseSetter.MaxLoanedRequests value) }
     {
         self.set(Set::MaxLoanedRequests(value))
     }
 
-    /// How many responses may be borrowed at one time from one pending response. Zero is one in a
-    /// create.
+    /// Sets the number of responses that may be borrowed at one time from one pending response. A
+    /// create takes zero as one.
     pub fn max_borrowed_responses_per_pending_response(self, value: u64) -> Self
         ensures { result ≡ with_setting self (RequestResponseSetter.MaxBorrowedResponsesPerPendingResponse value) }
     {
         self.set(Set::MaxBorrowedResponsesPerPendingResponse(value))
     }
 
-    /// How many responses the buffer of one request has room for. Zero is one in a create.
+    /// Sets the number of responses that the buffer of one request has room for. A create takes
+    /// zero as one.
     pub fn max_response_buffer_size(self, value: u64) -> Self
         ensures { result ≡ with_setting self (RequestResponseSetter.MaxResponseBufferSize value) }
     {
         self.set(Set::MaxResponseBufferSize(value))
     }
 
-    /// For how many servers the service is. Zero is one in a create.
+    /// Sets the number of servers that the service has room for. A create takes zero as one.
     pub fn max_servers(self, value: u64) -> Self
         ensures { result ≡ with_setting self (RequestResponseSetter.MaxServers value) }
     {
         self.set(Set::MaxServers(value))
     }
 
-    /// For how many clients the service is. Zero is one in a create.
+    /// Sets the number of clients that the service has room for. A create takes zero as one.
     pub fn max_clients(self, value: u64) -> Self
         ensures { result ≡ with_setting self (RequestResponseSetter.MaxClients value) }
     {
         self.set(Set::MaxClients(value))
     }
 
-    /// For how many nodes the service is. Zero is one in a create.
+    /// Sets the number of nodes that the service has room for. A create takes zero as one.
     pub fn max_nodes(self, value: u64) -> Self
         ensures { result ≡ with_setting self (RequestResponseSetter.MaxNodes value) }
     {
         self.set(Set::MaxNodes(value))
     }
 
-    /// How far a request's payload is aligned at least, in bytes; it stays aligned as far as its
-    /// type says. It marks no setting, and the last one that was asked stands.
+    /// Sets the least alignment of a request's payload, in bytes. The payload stays aligned as far
+    /// as its type says. This marks no setting. If it is called more than once, the last alignment
+    /// counts.
     pub fn request_payload_alignment(self, value: Alignment) -> Self
         ensures { result ≡ with_setting self (RequestResponseSetter.RequestPayloadAlignment value) }
     {
         self.set(Set::RequestPayloadAlignment(value))
     }
 
-    /// How far a response's payload is aligned at least, in bytes, as for a request's.
+    /// Sets the least alignment of a response's payload, in bytes, as `request_payload_alignment`
+    /// does for a request's.
     pub fn response_payload_alignment(self, value: Alignment) -> Self
         ensures { result ≡ with_setting self (RequestResponseSetter.ResponsePayloadAlignment value) }
     {
         self.set(Set::ResponsePayloadAlignment(value))
     }
 
-    /// The same builder for messages with other user headers.
+    /// Returns the same builder for messages with other user headers.
     fn with_headers<QM: ZeroCopySend, RM: ZeroCopySend>(self) -> Builder<Q, QM, R, RM, S>
         ensures { result ≡ self }
     {
@@ -348,22 +354,22 @@ impl<Q: ZeroCopySend, QU: ZeroCopySend, R: ZeroCopySend, RU: ZeroCopySend, S: Se
         Builder::from_parts(base, demand, types)
     }
 
-    /// The same builder for requests with another user header.
+    /// Returns the same builder for requests with another user header.
     pub fn request_user_header<M: ZeroCopySend>(self) -> Builder<Q, M, R, RU, S>
         ensures { result ≡ self }
     {
         self.with_headers()
     }
 
-    /// The same builder for responses with another user header.
+    /// Returns the same builder for responses with another user header.
     pub fn response_user_header<M: ZeroCopySend>(self) -> Builder<Q, QU, R, M, S>
         ensures { result ≡ self }
     {
         self.with_headers()
     }
 
-    /// Who calls, at the time zero, and what the call asks, with its types made. `AllocError` where there was
-    /// no memory for their names.
+    /// Returns the caller, at the time zero, and what the call asks, with its types made.
+    /// `AllocError` if there was no memory for their names.
     fn into_prepared(self) -> Result<(Caller, PreparedDemand), AllocError>
         ensures { let messages = messages_for Q.detail QU.detail R.detail RU.detail self.types in
             IfOk result (λ made. (made.0 ≡ request_response_caller S.ServiceNameHasher.hash_of self)
@@ -379,8 +385,8 @@ impl<Q: ZeroCopySend, QU: ZeroCopySend, R: ZeroCopySend, RU: ZeroCopySend, S: Se
         Ok((base.into_caller(PREFIX, Ok(Time::default())), asked))
     }
 
-    /// Creates the service without attributes: `create_with_attributes` of a specifier that
-    /// defines none.
+    /// Creates the service without attributes, as `create_with_attributes` does with a specifier
+    /// that defines none.
     pub fn create(
         self,
         storage: &mut S::Storage,
@@ -394,17 +400,19 @@ impl<Q: ZeroCopySend, QU: ZeroCopySend, R: ZeroCopySend, RU: ZeroCopySend, S: Se
         self.create_with_attributes(&specifier, storage)
     }
 
-    /// Creates the service with these attributes, with the settings as they are but for zeros,
-    /// which become one, and with the prepared types.
+    /// Creates the service with these attributes, with the prepared types, and with the settings as
+    /// they are, except that zeros become one.
     ///
-    /// Refused with `OutOfMemory` where there was no memory for the types, before any access; with
-    /// `AlreadyExists` where there is a service, with `HangsInCreation` or
-    /// `IsBeingCreatedByAnotherInstance` while another one creates it, with
-    /// `ServiceInCorruptedState` where the look finds bytes that are no description, or one of
-    /// another hash, or a storage at fault, where the node is counted though there is no service,
-    /// where a segment can't be cleared away, or where nothing is published, with
-    /// `InternalFailure` where the storage fails, and with `InsufficientPermissions` or
-    /// `OutOfMemory` as they say.
+    /// The errors:
+    /// - `OutOfMemory`, before any access: there was no memory for the types.
+    /// - `AlreadyExists`: there is a service.
+    /// - `HangsInCreation`, `IsBeingCreatedByAnotherInstance`: somebody else is creating the
+    ///   service.
+    /// - `ServiceInCorruptedState`: the look finds bytes that are no description, a description of
+    ///   another hash, or a storage at fault; or the node is counted although there is no service;
+    ///   or a segment can't be removed; or nothing is published.
+    /// - `InternalFailure`: the storage fails.
+    /// - `InsufficientPermissions`, `OutOfMemory`: as their names say.
     pub fn create_with_attributes(
         self,
         specifier: &AttributeSpecifier,
@@ -421,8 +429,8 @@ impl<Q: ZeroCopySend, QU: ZeroCopySend, R: ZeroCopySend, RU: ZeroCopySend, S: Se
         into_factory(create_once(asked, caller, specifier.attributes(), storage))
     }
 
-    /// Opens the service, whatever its attributes: `open_with_attributes` of a verifier that
-    /// requires none.
+    /// Opens the service, whatever its attributes, as `open_with_attributes` does with a verifier
+    /// that requires none.
     pub fn open(
         self,
         storage: &mut S::Storage,
@@ -437,21 +445,27 @@ impl<Q: ZeroCopySend, QU: ZeroCopySend, R: ZeroCopySend, RU: ZeroCopySend, S: Se
         self.open_with_attributes(&verifier, storage)
     }
 
-    /// Opens the service, if the types of its requests and responses are those of the builder, it
-    /// has the required attributes and offers each marked setting. The factory carries the
+    /// Opens the service, if the types of its requests and responses are those of the builder, and
+    /// if it has the required attributes and offers each marked setting. The factory carries the
     /// attributes, the settings and the types with which the service was created.
     ///
-    /// Refused with `OutOfMemory` where there was no memory for the types, before any access; with
-    /// `DoesNotExist` where there is no service, with `IncompatibleRequestType` where its requests
-    /// are of other types, else with `IncompatibleResponseType` where its responses are, with
-    /// `IncompatibleAttributes` where it lacks a required pair or has no value for a required key,
-    /// with the setting's error where it offers less than is required or another behavior, with
-    /// `ExceedsMaxNumberOfNodes` where no further node has room, with `IsMarkedForDestruction`
-    /// where the last node has left, with `HangsInCreation` while it is created, with
-    /// `ServiceInCorruptedState` where the look finds bytes that are no description, or one of
-    /// another hash, or a storage at fault, where its segment isn't there, or where the service is
-    /// replaced again and again, with `InternalFailure` where the storage fails, and with
-    /// `IncompatibleMessagingPattern`, `InsufficientPermissions` or `OutOfMemory` as they say.
+    /// The errors:
+    /// - `OutOfMemory`, before any access: there was no memory for the types.
+    /// - `DoesNotExist`: there is no service.
+    /// - `IncompatibleRequestType`: the service's requests have other types.
+    /// - `IncompatibleResponseType`: the requests' types fit, but the responses have other types.
+    /// - `IncompatibleAttributes`: the service lacks a required pair, or has no value for a
+    ///   required key.
+    /// - A setting's own error: the service offers less than is required, or another behavior.
+    /// - `ExceedsMaxNumberOfNodes`: no further node has room.
+    /// - `IsMarkedForDestruction`: the last node has left.
+    /// - `HangsInCreation`: the service is being created.
+    /// - `ServiceInCorruptedState`: the look finds bytes that are no description, a description of
+    ///   another hash, or a storage at fault; or the service's segment isn't there; or the service
+    ///   is replaced again and again.
+    /// - `InternalFailure`: the storage fails.
+    /// - `IncompatibleMessagingPattern`, `InsufficientPermissions`, `OutOfMemory`: as their names
+    ///   say.
     pub fn open_with_attributes(
         self,
         verifier: &AttributeVerifier,
@@ -469,8 +483,8 @@ impl<Q: ZeroCopySend, QU: ZeroCopySend, R: ZeroCopySend, RU: ZeroCopySend, S: Se
         into_factory(open(&asked, &caller, verifier, storage))
     }
 
-    /// Opens the service, or creates it where there is none, whatever its attributes:
-    /// `open_or_create_with_attributes` of a verifier that requires none.
+    /// Opens the service, or creates it if there is none, whatever its attributes, as
+    /// `open_or_create_with_attributes` does with a verifier that requires none.
     pub fn open_or_create(
         self,
         storage: &mut S::Storage,
@@ -485,17 +499,17 @@ impl<Q: ZeroCopySend, QU: ZeroCopySend, R: ZeroCopySend, RU: ZeroCopySend, S: Se
         self.open_or_create_with_attributes(&verifier, storage)
     }
 
-    /// Opens the service as `open_with_attributes` does, or, where there is none, creates it as
+    /// Opens the service as `open_with_attributes` does. If there is none, creates it as
     /// `create_with_attributes` does, with the required pairs. Required keys are not created. The
     /// types are prepared once.
     ///
-    /// Where an open is refused with `DoesNotExist`, `ServiceInCorruptedState` or
-    /// `IsMarkedForDestruction`, or a create with `AlreadyExists`,
-    /// `IsBeingCreatedByAnotherInstance` or `ServiceInCorruptedState`, there is another round, in
-    /// which zeros that the create raised stay raised; after six such rounds it is refused with
-    /// `SystemInFlux`. Else it is refused with a `RequestResponseOpenError` where there was no
-    /// memory for the types, a look finds something wrong or the service isn't opened, and with a
-    /// `RequestResponseCreateError` where it isn't created. Each round gives back what it made.
+    /// Another round follows if an open is refused with `DoesNotExist`, `ServiceInCorruptedState`
+    /// or `IsMarkedForDestruction`, or a create with `AlreadyExists`,
+    /// `IsBeingCreatedByAnotherInstance` or `ServiceInCorruptedState`. In that round, zeros that
+    /// the create raised stay raised. After six such rounds the call is refused with
+    /// `SystemInFlux`. Otherwise a `RequestResponseOpenError` tells that there was no memory for
+    /// the types, that a look found something wrong or that the service isn't opened, and a
+    /// `RequestResponseCreateError` that it isn't created. Each round gives back what it made.
     pub fn open_or_create_with_attributes(
         self,
         verifier: &AttributeVerifier,

@@ -1,4 +1,4 @@
-//! What a call that is granted hands out.
+//! The factory that a granted call hands out.
 
 ghost use Rattle.std.specs.Prelude.{◌≡◌, IfOk, true};
 
@@ -6,7 +6,8 @@ use crate::port_factory::Registration;
 use crate::port_factory::factory::{Kind, PortFactory};
 use iceoryx2_access::storage::Service;
 
-/// The factory of what a call registered at a service of the pattern, or the call's refusal.
+/// Returns the factory of what a call registered at a service of the pattern, or the call's
+/// refusal.
 pub fn into_factory<S: Service, K: Kind, E>(
     answer: Result<Registration, E>,
 ) -> Result<PortFactory<S, K>, E>

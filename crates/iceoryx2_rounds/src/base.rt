@@ -1,4 +1,4 @@
-//! What a builder has once its pattern is chosen.
+//! The parts of a builder once its pattern is chosen.
 
 ghost use Rattle.std.specs.Prelude.{◌≡◌};
 ghost use Rattle.iceoryx2_rounds.specs.Facts.{caller_of};
@@ -10,7 +10,8 @@ use iceoryx2_description::time::{ClockFault, Time};
 use std::alloc::AllocError;
 use std::marker::{Model, PhantomData};
 
-/// What a builder has once its pattern is chosen, whatever the pattern is: the node and the name.
+/// The parts of a builder once its pattern is chosen, whatever the pattern is: the node and the
+/// name.
 /// Hidden in iceoryx2.
 pub struct BuilderWithServiceType<S: Service> {
     node: u64,
@@ -41,7 +42,7 @@ impl<S: Service> Clone for BuilderWithServiceType<S> {
 
     ghost is_clone = { λ base copy. copy ≡ base };
 
-    /// `AllocError` where there was no memory for the name.
+    /// Returns `AllocError` if there was no memory for the name.
     fn clone(&self) -> Result<BuilderWithServiceType<S>, AllocError> {
         Ok(BuilderWithServiceType {
             node: self.node,
@@ -52,7 +53,7 @@ impl<S: Service> Clone for BuilderWithServiceType<S> {
 }
 
 impl<S: Service> BuilderWithServiceType<S> {
-    /// What a builder of this node has, for the service of this name.
+    /// Returns the parts of a builder of this node, for the service of this name.
     pub fn new(node: u64, name: ServiceName) -> Self
         ensures { result ≡ record { node = node; name = name } }
     {
@@ -63,14 +64,15 @@ impl<S: Service> BuilderWithServiceType<S> {
         }
     }
 
-    /// The service's name.
+    /// Returns the service's name.
     pub fn name(&self) -> &ServiceName
         ensures { result.now ≡ self.now.name }
     {
         &self.name
     }
 
-    /// The node as the caller for the service of this name, of the pattern with this prefix.
+    /// Returns the node as the caller for the service of this name, of the pattern with this
+    /// prefix.
     pub fn into_caller(self, prefix: u8, clock: Result<Time, ClockFault>) -> Caller
         ensures { result ≡ caller_of S.ServiceNameHasher.hash_of prefix self clock }
     {

@@ -1,4 +1,4 @@
-//! Who calls, for which service, and when.
+//! The caller: a node, the service that it calls for, and the time.
 
 ghost use Rattle.std.specs.Prelude.{◌≡◌};
 
@@ -6,15 +6,16 @@ use iceoryx2_description::description::{ServiceHash, ServiceName};
 use iceoryx2_description::time::{ClockFault, Time};
 use std::alloc::AllocError;
 
-/// Who creates or opens a service, which one, and when.
+/// The caller that creates or opens a service: the node, the service and the time.
 pub struct Caller {
     /// The node.
     pub node: u64,
-    /// The hash of the service's name behind its pattern's prefix.
+    /// The hash of the service's name after its pattern's prefix.
     pub hash: ServiceHash,
     /// The service's name, under which a create publishes it.
     pub name: ServiceName,
-    /// What the clock answers. Only a create asks for it, of a pattern that publishes when it was created.
+    /// The clock's answer. Only a create asks for it, and only if its pattern publishes when the
+    /// service was created.
     pub clock: Result<Time, ClockFault>,
 }
 
@@ -50,7 +51,7 @@ impl Clone for Caller {
 
     ghost is_clone = { λ caller copy. copy ≡ caller };
 
-    /// `AllocError` where there was no memory for the name.
+    /// Returns `AllocError` if there was no memory for the name.
     fn clone(&self) -> Result<Caller, AllocError> {
         Ok(Caller {
             node: self.node,

@@ -1,4 +1,4 @@
-//! How a service is created.
+//! The creation of a service.
 
 ghost use Rattle.std.specs.Prelude.{◌≡◌, IfOk};
 ghost use Rattle.iceoryx2_access.specs.Run.{Joins};
@@ -23,7 +23,7 @@ use iceoryx2_description::description::{ServiceHash, StaticConfig};
 use iceoryx2_description::time::{ClockFault, Time};
 use std::alloc::AllocError;
 
-/// How many segments of others a create removes before it gives up on making its own.
+/// The number of segments of others that a create removes before it gives up on making its own.
 pub const CLEARING_LIMIT: u64 = 5;
 
 /// The limit is five.
@@ -52,7 +52,8 @@ fn lock_refusal(error: LockError) -> CreateRefusal
     }
 }
 
-/// Why a refused making ends the call. `None`: a segment is there, which is removed.
+/// Returns the reason why a refused making ends the call. `None`: a segment is there, which is
+/// removed.
 fn make_refusal(error: MakeSegmentError) -> Option<CreateRefusal>
     ensures { result ≡ of_make error }
 {
@@ -82,7 +83,7 @@ fn publish_refusal(error: PublishError) -> CreateRefusal
     }
 }
 
-/// Whether the clock stops a create.
+/// Returns true if the clock stops a create.
 fn clock_stops(needs_clock: bool, now: &Result<Time, ClockFault>) -> bool
     ensures { result ≡ creates.clock_stops needs_clock now.now }
 {
@@ -92,8 +93,9 @@ fn clock_stops(needs_clock: bool, now: &Result<Time, ClockFault>) -> bool
     }
 }
 
-/// What a create publishes of its call, with the caller as its creator. It takes over the name and the types of
-/// messages, and copies the attributes. `AllocError` where there was no memory for these.
+/// Returns what a create publishes of its call, with the caller as its creator. It takes over the
+/// name and the types of messages, and copies the attributes. `AllocError` if there was no memory
+/// for the attributes.
 fn take_over<P: Pattern>(
     pattern: P,
     caller: Caller,
@@ -113,7 +115,8 @@ fn take_over<P: Pattern>(
     Ok(description.with_creator(node))
 }
 
-/// The same made of copies, since a later round may need the name and the types again.
+/// Returns the same as `take_over`, made of copies, since a later round may need the name and the
+/// types again.
 fn describe<P: Pattern>(
     pattern: &P,
     caller: &Caller,
@@ -127,7 +130,7 @@ fn describe<P: Pattern>(
     take_over(pattern, caller, attributes)
 }
 
-/// Makes the segment, and before each further try removes what was left of another.
+/// Makes the segment. Before each further try it removes anything that was left of another segment.
 fn make_own_segment<S: Storage>(
     node: u64,
     hash: &ServiceHash,
@@ -160,7 +163,7 @@ fn make_own_segment<S: Storage>(
     }
 }
 
-/// Looks, and asks for the node: why the hash isn't free for it, if it isn't.
+/// Looks, and asks for the node. Returns the reason if the hash isn't free for the node.
 fn precheck<P: Pattern, S: Storage>(
     pattern: &P,
     caller: &Caller,
@@ -180,8 +183,8 @@ fn precheck<P: Pattern, S: Storage>(
     None
 }
 
-/// Why a create ends before it describes its service: its settings forbid it, or the hash isn't free for the node.
-/// `None`: neither.
+/// Returns the reason if a create ends before it describes its service: its settings forbid it, or
+/// the hash isn't free for the node. `None`: neither.
 fn refusal_at_first<P: Pattern, S: Storage>(
     pattern: &P,
     caller: &Caller,
@@ -198,10 +201,10 @@ fn refusal_at_first<P: Pattern, S: Storage>(
 
 /// Creates the caller's service, with these attributes.
 ///
-/// Zeros that a create raises become one first. The caller's time is when the service is created, of a pattern that
-/// tells it. A refused create gives back, in this order, the segment, the lock and the tag that it
-/// made; it tries each, and a refused removal doesn't change its answer. It publishes copies of the name and of the
-/// types of messages, so it may be called again.
+/// Zeros that a create raises become one first. If the pattern tells when a service is created,
+/// that is the caller's time. A refused create gives back, in this order, the segment, the lock and
+/// the tag that it made. It tries each removal, and a refused one doesn't change its answer. It
+/// publishes copies of the name and of the types of messages, so it may be called again.
 pub fn create<P: Pattern, S: Storage>(
     pattern: &mut P,
     caller: &Caller,
@@ -235,8 +238,8 @@ fn create_adjusted<P: Pattern, S: Storage>(
     create_described::<P, S>(caller.node, &caller.hash, stopped, described, storage)
 }
 
-/// Creates the caller's service as `create` does, and takes over the name and the types of messages: of what it
-/// publishes, it copies only the attributes.
+/// Creates the caller's service as `create` does, but takes over the name and the types of
+/// messages. It copies only the attributes of what it publishes.
 pub fn create_once<P: Pattern, S: Storage>(
     mut pattern: P,
     caller: Caller,
@@ -258,7 +261,7 @@ pub fn create_once<P: Pattern, S: Storage>(
     create_described::<P, S>(node, &hash, stopped, described, storage)
 }
 
-/// Creates a service of this description, or ends with `OutOfMemory` where there was no memory for it.
+/// Creates a service of this description, or ends with `OutOfMemory` if there was no memory for it.
 fn create_described<P: Pattern, S: Storage>(
     node: u64,
     hash: &ServiceHash,
@@ -277,14 +280,14 @@ fn create_described<P: Pattern, S: Storage>(
     registration_of(node, created, description)
 }
 
-/// Where a created service stands.
+/// The numbers of a created service.
 struct Created {
     number: u64,
-    /// Its creator's.
+    /// The creator's ticket.
     ticket: u64,
 }
 
-/// The registration of the node that created a service of this description.
+/// Returns the registration of the node that created a service of this description.
 fn registration_of<E>(
     node: u64,
     created: Result<Created, E>,
@@ -299,7 +302,7 @@ fn registration_of<E>(
     Ok(Registration::new(node, number, ticket, description))
 }
 
-/// Makes the tag, and then the service, where the clock doesn't stop it.
+/// Makes the tag, and then the service, unless the clock stops the create.
 fn make_tagged<P: Pattern, S: Storage>(
     node: u64,
     hash: &ServiceHash,

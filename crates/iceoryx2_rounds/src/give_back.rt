@@ -1,4 +1,4 @@
-//! How a refused call gives back what it made.
+//! The giving back of what a refused call made.
 
 ghost use Rattle.std.specs.Prelude.{◌∷◌};
 ghost use Rattle.iceoryx2_access.specs.Run.{Joins};

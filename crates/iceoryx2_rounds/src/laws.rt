@@ -1,7 +1,8 @@
-//! What holds of every word of a call, whatever the pattern and the storage.
+//! Laws of every word of a call, whatever the pattern and the storage.
 //!
-//! A create, an open, and an open or create may prepare the types of their messages first. One that doesn't goes along a
-//! word of its grammar, which is a word of such a call too.
+//! A create, an open, and an open or create may prepare the types of their messages first. A call
+//! that doesn't prepare types goes along a word of its grammar. That word is a word of a call that
+//! prepares types too.
 
 ghost use Rattle.std.specs.Prelude.{◌≡◌, ℕ, List, Result, Ok, Err};
 ghost use Rattle.iceoryx2_description.specs.declared.description.ServiceHash.{ServiceHash};
@@ -46,24 +47,25 @@ pub fn open_is_short<E: Copy, C: Copy>()
         → OpenIsShort m node hash word answer }
 {}
 
-/// A refused create has given back what it made: its word is a front, which makes its tag unless that
-/// was there, its lock and its segment, or fewer of them, and then one removal for each thing that the
-/// front made, the last first. It leaves only that for which this removal was refused (`is_left`).
+/// A refused create has given back what it made. Its word is a front, which makes its tag unless
+/// the tag was there, its lock and its segment, or fewer of them. Then comes one removal for each
+/// thing that the front made, the last thing first. The create leaves only those things whose
+/// removal was refused (`is_left`).
 pub fn refused_create_gives_back<E: Copy, C: Copy>()
     ensures { (m : PatternRules E C) (caller : Caller) (word : List Letter) (error : C)
         → IsCreateCall m caller word (Err error) → GivesAllBack caller.node caller.hash word }
 {}
 
 /// A refused open has given back each tag that it made, round by round, and took away none that was
-/// there. It leaves a tag only where the last removal of one was refused, and locks nothing.
+/// there. It leaves a tag only if the last removal of one was refused, and locks nothing.
 pub fn refused_open_gives_back<E: Copy, C: Copy>()
     ensures { (m : PatternRules E C) (node : ℕ) (hash : ServiceHash) (word : List Letter) (error : E)
         → RefusedOpenGivesBack m node hash word error }
 {}
 
-/// A create that succeeds keeps its segment and its lock, under whose number the description now
-/// stands, and its tag, which may have been there. It has given back nothing of its own: it is a front,
-/// and then it publishes.
+/// A create that succeeds keeps its segment, its lock, under whose number the description is now
+/// published, and its tag, which may have been there. It has given back nothing of its own: its
+/// word is a front, and then it publishes.
 pub fn create_keeps_what_it_made<E: Copy, C: Copy>()
     ensures { (m : PatternRules E C) (caller : Caller) (word : List Letter) (r : Registered)
         → IsCreateCall m caller word (Ok r)
@@ -85,15 +87,15 @@ pub fn granted_create_carries<E: Copy, C: Copy>()
         → (r.node ≡ caller.node) × (r.description ≡ description_of m caller) }
 {}
 
-/// An open that succeeds carries its node and a description of the builder's hash that is of the
-/// builder's pattern and message types, and on which the requirement was accepted.
+/// An open that succeeds carries its node and a description. The description has the builder's
+/// hash, pattern and message types, and the requirement was accepted on it.
 pub fn granted_open_carries<E: Copy, C: Copy>()
     ensures { (m : PatternRules E C) (node : ℕ) (hash : ServiceHash) (word : List Letter) (r : Registered)
         → IsOpenCall m node hash word (Ok r)
         → CarriesAccepted m node hash r }
 {}
 
-/// What a close hands back is what was to be closed.
+/// A close hands back what was to be closed.
 pub fn close_hands_back_its_own()
     ensures { (r s : Registered) (word : List Letter) → IsCloseWord r word (Err (NotHere s)) → s ≡ r }
 {}
@@ -106,8 +108,8 @@ pub fn open_or_create_is_short<D, E: Copy, C: Copy>()
         → OpenOrCreateIsShort c word answer }
 {}
 
-/// A refused open or create has given back what it made, round by round. Each round leaves only that
-/// for which a removal was refused.
+/// A refused open or create has given back what it made, round by round. Each round leaves only
+/// those things whose removal was refused.
 pub fn refused_open_or_create_gives_back<D, E: Copy, C: Copy>()
     ensures { (c : BuilderCall D E C) (word : List Letter)
         (refusal : OpenOrCreateRefusal E C)
@@ -122,8 +124,8 @@ pub fn open_or_create_keeps_what_it_made<D, E: Copy, C: Copy>()
         → KeepsInTheEnd c.caller.node c.caller.hash word r.number }
 {}
 
-/// An open or create that succeeds carries its node, and a description that its last round accepted,
-/// or published with zeros raised. What that round asks is what was asked first, adjusted by each
+/// An open or create that succeeds carries its node, and a description that its last round
+/// accepted, or published with zeros raised. That round asks what was asked first, adjusted by each
 /// create before.
 pub fn granted_open_or_create_carries<D, E: Copy, C: Copy>()
     ensures { (c : BuilderCall D E C) (word : List Letter) (r : Registered)
@@ -131,8 +133,8 @@ pub fn granted_open_or_create_carries<D, E: Copy, C: Copy>()
         → (r.node ≡ c.caller.node) × Carries c r.description }
 {}
 
-/// Where a create only raises minima, what an open or create carries that succeeds meets what was
-/// asked first, whatever its rounds adjusted, or was published with that adjusted once.
+/// If a create only raises minima, the description that a granted open or create carries meets what
+/// was asked first, whatever its rounds adjusted, or was published with that adjusted once.
 pub fn granted_open_or_create_meets_or_holds<D, E: Copy, C: Copy>()
     ensures { (c : BuilderCall D E C) (word : List Letter) (r : Registered)
         → OnlyRaises c.meaning c.adjusted → IsOpenOrCreateCall c word (Ok r)

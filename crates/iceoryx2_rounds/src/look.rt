@@ -1,4 +1,4 @@
-//! How a call sees whether there is a service.
+//! The look by which a call finds out if there is a service.
 
 ghost use Rattle.std.specs.Prelude.{◌≡◌, ℕ, List, Ok};
 ghost use Rattle.iceoryx2_data.specs.Form.{IsForm};
@@ -14,7 +14,7 @@ use iceoryx2_data::bytes::{DecodeError, decode};
 use iceoryx2_description::description::{ServiceHash, StaticConfig};
 use std::alloc::Global;
 
-/// What a look finds wrong.
+/// A fault that a look finds.
 #[derive(Clone, Copy)]
 pub enum Fault<E> {
     /// The description can't be read.
@@ -25,11 +25,11 @@ pub enum Fault<E> {
     Corrupted,
     /// There was no memory for the description.
     OutOfMemory,
-    /// The service is of another pattern, or of other message types: the error of an open.
+    /// The service has another pattern or other message types. The value is the error of an open.
     Misfit(E),
 }
 
-/// What a look finds.
+/// The outcome of a look.
 #[derive(Drop)]
 pub enum Outcome<E> {
     Nothing,
@@ -38,18 +38,18 @@ pub enum Outcome<E> {
     Faulty(Fault<E>),
 }
 
-/// What a look finds, for a call that needs no description of it.
+/// The outcome of a look, for a call that needs no description of it.
 pub enum Presence<E> {
     /// There is nothing.
     Absent,
     /// There is a service of the pattern and the message types.
     Present,
-    /// What a look finds wrong.
+    /// A fault that a look finds.
     AtFault(Fault<E>),
 }
 
 impl<E> Outcome<E> {
-    /// Forgets the number and the description of what was found.
+    /// Returns the outcome without the number and the description of what was found.
     pub fn presence(self) -> Presence<E>
         ensures { result ≡ presence_of self }
     {
@@ -61,7 +61,7 @@ impl<E> Outcome<E> {
     }
 }
 
-/// The error of an open whose look finds this fault.
+/// Returns the error of an open whose look finds this fault.
 pub fn open_error_of<P: Pattern>(pattern: &P, fault: Fault<P::OpenError>) -> P::OpenError
     ensures { result ≡ refusals.open_error_of (P.meaning pattern.now) fault }
 {
@@ -76,7 +76,7 @@ pub fn open_error_of<P: Pattern>(pattern: &P, fault: Fault<P::OpenError>) -> P::
     }
 }
 
-/// The error of a create whose look finds this fault. A service that doesn't fit exists.
+/// Returns the error of a create whose look finds this fault. A service that doesn't fit exists.
 pub fn create_error_of<P: Pattern>(pattern: &P, fault: Fault<P::OpenError>) -> P::CreateError
     ensures { result ≡ refusals.create_error_of (P.meaning pattern.now) fault }
 {
@@ -91,7 +91,7 @@ pub fn create_error_of<P: Pattern>(pattern: &P, fault: Fault<P::OpenError>) -> P
     }
 }
 
-/// Asks whether there is a service of this hash, and reads its description.
+/// Asks if there is a service of this hash, and reads its description.
 pub fn look<P: Pattern, S: Storage>(
     pattern: &P,
     caller: &Caller,
@@ -110,7 +110,7 @@ pub fn look<P: Pattern, S: Storage>(
     }
 }
 
-/// What a fetch's answer means.
+/// Returns the outcome that a fetch's answer means.
 fn outcome_of<P: Pattern>(
     pattern: &P,
     hash: &ServiceHash,
@@ -131,7 +131,7 @@ fn outcome_of<P: Pattern>(
     }
 }
 
-/// What fetched bytes mean.
+/// Returns the outcome that fetched bytes mean.
 fn read<P: Pattern>(
     pattern: &P,
     hash: &ServiceHash,
@@ -155,7 +155,8 @@ fn read<P: Pattern>(
     Outcome::Found(number, description)
 }
 
-/// Why a description is none of the service that is looked for. `None`: it is of the hash, and fits the pattern.
+/// Returns the fault of a description that isn't that of the service that is looked for. `None`: it
+/// has the hash, and fits the pattern.
 fn fault_of<P: Pattern>(
     pattern: &P,
     hash: &ServiceHash,

@@ -1,4 +1,4 @@
-//! How a service is opened.
+//! The opening of a service.
 
 ghost use Rattle.std.specs.Prelude.{◌≡◌, Option, Some};
 ghost use Rattle.iceoryx2_access.specs.Run.{Joins};
@@ -19,7 +19,7 @@ use iceoryx2_access::storage::{OpenSegmentError, Storage, Tag, TagError};
 use iceoryx2_attribute::attribute::AttributeVerifier;
 use iceoryx2_description::description::StaticConfig;
 
-/// How often an open tries again after a round that failed.
+/// The number of times that an open tries again after a round that failed.
 pub const OPEN_RETRIES: u64 = 5;
 
 /// The limit is five.
@@ -36,7 +36,7 @@ fn tag_refusal(error: TagError) -> OpenRefusal
     }
 }
 
-/// Why a refused opening ends the call. `None` asks for a second look.
+/// Returns the reason why a refused opening ends the call. `None` asks for a second look.
 fn opening_refusal(error: OpenSegmentError) -> Option<OpenRefusal>
     ensures { result ≡ of_opening error }
 {
@@ -50,7 +50,7 @@ fn opening_refusal(error: OpenSegmentError) -> Option<OpenRefusal>
     }
 }
 
-/// Whether an existing service has the required attributes, and then meets the pattern's own
+/// Tests if an existing service has the required attributes, and then if it meets the pattern's own
 /// requirement.
 #[tactic(auto, using(crate::proofs::Verdicts::verdict_append))]
 fn verify<P: Pattern>(
@@ -87,8 +87,8 @@ fn look_again<P: Pattern, S: Storage>(
     }
 }
 
-/// Makes the node's tag and opens the segment of this number. A ticket, an error, or `None`, which asks
-/// for another round.
+/// Makes the node's tag and opens the segment of this number. Returns a ticket, an error, or
+/// `None`, which asks for another round.
 fn open_with_tag<P: Pattern, S: Storage>(
     pattern: &P,
     caller: &Caller,
@@ -118,8 +118,8 @@ fn open_with_tag<P: Pattern, S: Storage>(
     }
 }
 
-/// Asks of the service that was found what the call requires, and then opens it. A ticket, an error,
-/// or `None`, which asks for another round.
+/// Tests if the service that was found meets what the call requires, and then opens it. Returns a
+/// ticket, an error, or `None`, which asks for another round.
 fn open_found<P: Pattern, S: Storage>(
     pattern: &P,
     caller: &Caller,
@@ -156,7 +156,7 @@ fn registration_of<E>(
     Some(Ok(Registration::new(node, number, ticket, description)))
 }
 
-/// One round. `None` asks for another one.
+/// Makes one round. `None` asks for another one.
 fn try_open<P: Pattern, S: Storage>(
     pattern: &P,
     caller: &Caller,
@@ -177,8 +177,8 @@ fn try_open<P: Pattern, S: Storage>(
 
 /// Opens the caller's service, in at most six rounds.
 ///
-/// The attributes are required first, and then the settings as they are. The registration carries the
-/// description that was read and accepted in the round that opened.
+/// It tests the required attributes first, and then the settings as they are. The registration
+/// carries the description that was read and accepted in the round that opened.
 pub fn open<P: Pattern, S: Storage>(
     pattern: &P,
     caller: &Caller,

@@ -1,4 +1,4 @@
-//! How a service is opened, or created where there is none.
+//! The opening of a service, or its creation if there is none.
 
 ghost use Rattle.std.specs.Prelude.{◌≡◌};
 ghost use Rattle.iceoryx2_access.specs.Run.{Joins};
@@ -14,7 +14,7 @@ use crate::retries::{Retries, retries_create, retries_open};
 use iceoryx2_access::storage::Storage;
 use iceoryx2_attribute::attribute::AttributeVerifier;
 
-/// How often an open or create goes on after a round that is retried.
+/// The number of times that an open or create goes on after a round that is retried.
 pub const OPEN_OR_CREATE_RETRIES: u64 = 5;
 
 /// The limit is five.
@@ -22,18 +22,18 @@ pub fn open_or_create_retries_are_five()
     ensures { OPEN_OR_CREATE_RETRIES ≡ 5 }
 {}
 
-/// Why an open or create is refused.
+/// The reason why an open or create is refused.
 #[derive(Clone, Copy, Debug, PartialEq, Eq)]
 pub enum OpenOrCreateRefusal<E, C> {
-    /// As an open is: by the look of a round, or by the open in it.
+    /// The refusal of an open: by the look of a round, or by the open in it.
     Open(E),
-    /// As a create is.
+    /// The refusal of a create.
     Create(C),
     /// Each round was to be retried.
     SystemInFlux,
 }
 
-/// One round. `None` asks for another one.
+/// Makes one round. `None` asks for another one.
 fn attempt<P: Retries, S: Storage>(
     pattern: &mut P,
     caller: &Caller,
@@ -71,13 +71,14 @@ fn attempt<P: Retries, S: Storage>(
     }
 }
 
-/// Opens the caller's service, or creates it where there is none, in at most six rounds.
+/// Opens the caller's service, or creates it if there is none, in at most six rounds.
 ///
-/// A round looks first. What that look finds wrong is answered at once. A service that is found is
-/// opened, if it has the required pairs and keys and meets the pattern's requirement; where there is
-/// none, one is created with the required pairs, and the required keys are not created. A refusal
-/// that the pattern retries leads to the next round, and the sixth one to `SystemInFlux`. Zeros that
-/// a create raises stay raised in the rounds after it. Each round gives back what it made.
+/// A round looks first. If the look finds something wrong, the call answers that at once. If it
+/// finds a service, the round opens the service, if that has the required pairs and keys and meets
+/// the pattern's requirement. If there is no service, the round creates one with the required
+/// pairs. It doesn't create the required keys. A refusal that the pattern retries leads to the next
+/// round, and the sixth one to `SystemInFlux`. Zeros that a create raises stay raised in the rounds
+/// after it. Each round gives back what it made.
 pub fn open_or_create<P: Retries, S: Storage>(
     pattern: &mut P,
     caller: &Caller,

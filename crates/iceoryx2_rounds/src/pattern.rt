@@ -1,4 +1,4 @@
-//! What a pattern has of its own in the rounds.
+//! The part of the rounds that is a pattern's own.
 
 ghost use Rattle.std.specs.Prelude.{◌≡◌, IfOk};
 ghost use Rattle.iceoryx2_rounds.specs.PatternRules.{PatternRules};
@@ -8,8 +8,8 @@ use iceoryx2_description::description::{MessagingPattern, StaticConfig};
 use iceoryx2_description::time::Time;
 use std::alloc::AllocError;
 
-/// The refusals of an open that every pattern has, beside those of a service that doesn't fit or meets its
-/// requirement not.
+/// The refusals of an open that every pattern has. A service that doesn't fit or doesn't meet the
+/// requirement has other refusals.
 #[derive(Clone, Copy, Debug, PartialEq, Eq)]
 pub enum OpenRefusal {
     DoesNotExist,
@@ -35,63 +35,65 @@ pub enum CreateRefusal {
     ServiceInCorruptedState,
 }
 
-/// What a pattern's builder asks of a service, and how its calls name what goes wrong.
+/// The demands of a pattern's builder, and the errors by which its calls name what goes wrong.
 ///
 /// It stands for one call: its settings and marks, and the message types that it prepared.
 /// Hidden; iceoryx2 has no such trait.
 pub trait Pattern: Drop {
-    /// Why an open is refused.
+    /// The reason why an open is refused.
     type OpenError: Copy;
 
-    /// Why a create is refused.
+    /// The reason why a create is refused.
     type CreateError: Copy;
 
     /// What it asks, and its errors.
     ghost meaning: { Self → PatternRules Self.OpenError Self.CreateError };
 
-    /// The same with each zero that a create raises replaced by one.
+    /// The same demand, with one for each zero that a create raises.
     ghost adjusted: { Self → Self };
 
     /// Raises the zeros that a create may not leave.
     fn adjust(&mut self)
         ensures { self.new ≡ adjusted self.old };
 
-    /// Why a service of the right hash isn't opened that is of another pattern, or of other message types.
+    /// Returns the reason why a service of the right hash isn't opened if it has another pattern or
+    /// other message types.
     fn misfit(&self, existing: &StaticConfig) -> Option<Self::OpenError>
         ensures { result ≡ (meaning self.now).misfit existing.now };
 
-    /// Whether an existing service meets the requirement, clause by clause.
+    /// Tests if an existing service meets the requirement, clause by clause.
     fn verify(&self, existing: &StaticConfig) -> Result<(), Self::OpenError>
         ensures { result ≡ verdict ((meaning self.now).requirement existing.now) };
 
-    /// The error of a refused open.
+    /// Returns the error of a refused open.
     fn open_refusal(&self, refusal: OpenRefusal) -> Self::OpenError
         ensures { result ≡ (meaning self.now).open_refusal refusal };
 
-    /// The error of a refused create, whatever is asked.
+    /// Returns the error of a refused create, whatever is asked.
     fn create_error(refusal: CreateRefusal) -> Self::CreateError
         ensures { (asked : Self) → result ≡ (meaning asked).create_refusal refusal };
 
-    /// The error of a refused create.
+    /// Returns the error of a refused create.
     fn create_refusal(&self, refusal: CreateRefusal) -> Self::CreateError
         ensures { result ≡ (meaning self.now).create_refusal refusal }
     {
         Self::create_error(refusal)
     }
 
-    /// The error of settings that no create may have, which is answered before any access.
+    /// Returns the error of settings that no create may have. It is answered before any access.
     fn settings_refusal(&self) -> Option<Self::CreateError>
         ensures { result ≡ (meaning self.now).settings_refusal };
 
-    /// Whether a create has to know the time.
+    /// Returns true if a create has to know the time.
     fn needs_clock(&self) -> bool
         ensures { result ≡ (meaning self.now).needs_clock };
 
-    /// A copy of what is asked. `AllocError` where there was no memory for it.
+    /// Returns a copy of what is asked. `AllocError` if there was no memory for it.
     fn copy(&self) -> Result<Self, AllocError>
         ensures { IfOk result (λ copy. copy ≡ self.now) };
 
-    /// What a create at this time publishes of the pattern. It takes over the types of messages.
+    /// Returns what a create at this time publishes of the pattern. It takes over the types of
+    /// messages.
     fn into_published(self, now: Time) -> MessagingPattern
         ensures { result ≡ (meaning self).published now };
 }

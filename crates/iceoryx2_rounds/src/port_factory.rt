@@ -1,4 +1,4 @@
-//! What an opened service is held by, and how it is closed.
+//! The registration that holds an opened service, and its closing.
 
 ghost use Rattle.std.specs.Prelude.{◌≡◌};
 ghost use Rattle.iceoryx2_access.specs.Run.{Joins};
@@ -30,7 +30,7 @@ impl Model for Registration {
     ghost view = { λ r. record { node = r.node; number = r.number; ticket = r.ticket; description = r.description } };
 }
 
-/// Names the first removal that was refused.
+/// Returns the first removal that was refused.
 fn answer<F>(
     tag: Result<(), RemoveError>,
     segment: Result<(), RemoveError>,
@@ -62,36 +62,36 @@ impl Registration {
         }
     }
 
-    /// The node that is registered.
+    /// Returns the node that is registered.
     pub fn node(&self) -> u64
         ensures { result ≡ self.now.node }
     {
         self.node
     }
 
-    /// The service's number.
+    /// Returns the service's number.
     pub fn number(&self) -> u64
         ensures { result ≡ self.now.number }
     {
         self.number
     }
 
-    /// The node's ticket for the service.
+    /// Returns the node's ticket for the service.
     pub fn ticket(&self) -> u64
         ensures { result ≡ self.now.ticket }
     {
         self.ticket
     }
 
-    /// The service's description.
+    /// Returns the service's description.
     pub fn description(&self) -> &StaticConfig
         ensures { result.now ≡ self.now.description }
     {
         &self.description
     }
 
-    /// Gives the ticket back. The last node removes the service: its own tag, the segment, and
-    /// the description. Each removal is tried, and the first refused one is named.
+    /// Gives the ticket back. The last node removes the service: its own tag, the segment, and the
+    /// description. It tries each removal, and the error names the first refused one.
     pub fn close<S: Storage>(self, storage: &mut S) -> Result<(), CloseError<Registration>>
         ensures { Joins S.step storage.old (λ word. IsCloseWord self word result) storage.new }
     {
@@ -117,7 +117,8 @@ impl Registration {
         }
     }
 
-    /// Spends it without any access: its ticket and its registration stay.
+    /// Spends the registration without any access. The ticket stays, and so does the node's
+    /// registration.
     pub fn abandon(self) {
         let Registration {
             node: _,

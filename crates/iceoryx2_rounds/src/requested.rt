@@ -1,4 +1,4 @@
-//! What a builder asks of a message's types, whatever its pattern.
+//! A builder's demand of a message's types, whatever its pattern.
 
 ghost use Rattle.std.specs.Prelude.{◌≡◌, IfOk};
 ghost use Rattle.iceoryx2_rounds.specs.Requested.{no_types, requested_message};
@@ -6,14 +6,14 @@ ghost use Rattle.iceoryx2_rounds.specs.Requested.{no_types, requested_message};
 use iceoryx2_types::types::{Alignment, MessageTypeDetails, TypeDetail, ZeroCopySend};
 use std::alloc::{AllocError, Global};
 
-/// What is given in place of a message's own types, and how far its payload is to be aligned.
+/// The types that are given instead of a message's own, and the least alignment of its payload.
 #[derive(Debug, Drop, PartialEq, Eq)]
 pub struct RequestedTypes {
-    /// In place of the user header's own type.
+    /// The type that is given instead of the user header's own.
     pub user_header: Option<TypeDetail>,
-    /// In place of the payload's own type.
+    /// The type that is given instead of the payload's own.
     pub payload: Option<TypeDetail>,
-    /// How far the payload is aligned at least, in bytes.
+    /// The least alignment of the payload, in bytes.
     pub alignment: Option<Alignment>,
 }
 
@@ -22,7 +22,7 @@ impl Clone for RequestedTypes {
 
     ghost is_clone = { λ types copy. copy ≡ types };
 
-    /// `AllocError` where there was no memory for the names of types.
+    /// Returns `AllocError` if there was no memory for the names of types.
     fn clone(&self) -> Result<RequestedTypes, AllocError> {
         Ok(RequestedTypes {
             user_header: copy_of(&self.user_header)?,
@@ -32,8 +32,8 @@ impl Clone for RequestedTypes {
     }
 }
 
-/// A copy of what stands in place of a type, if something does. `AllocError` where there was no memory
-/// for its name.
+/// Returns a copy of what is given instead of a type, if something is. `AllocError` if there was no
+/// memory for its name.
 fn copy_of(told: &Option<TypeDetail>) -> Result<Option<TypeDetail>, AllocError>
     ensures { IfOk result (λ copy. copy ≡ told.now) }
 {
@@ -44,7 +44,7 @@ fn copy_of(told: &Option<TypeDetail>) -> Result<Option<TypeDetail>, AllocError>
 }
 
 impl RequestedTypes {
-    /// Each type is the message's own, and aligned as it is.
+    /// Returns no other types: each type is the message's own, and aligned as it is.
     pub fn none() -> RequestedTypes
         ensures { result ≡ no_types }
     {
@@ -55,8 +55,8 @@ impl RequestedTypes {
         }
     }
 
-    /// The types of a message with this header, this payload and this user header. `AllocError`
-    /// where there was no memory for their names.
+    /// Returns the types of a message with this header, this payload and this user header.
+    /// `AllocError` if there was no memory for their names.
     pub fn prepare<H: ZeroCopySend, P: ZeroCopySend, U: ZeroCopySend>(
         self,
         alloc: Global,

@@ -1,13 +1,14 @@
-//! After which refusals an open or create goes on.
+//! The refusals after which an open or create goes on.
 
 ghost use Rattle.std.specs.Prelude.{◌≡◌};
 ghost use Rattle.iceoryx2_rounds.specs.Retried.{Retried, retried_by};
 
 use crate::pattern::{CreateRefusal, OpenRefusal, Pattern};
 
-/// A pattern whose errors can be compared, so that an open or create knows after which there is another round.
+/// A pattern whose errors can be compared. So an open or create knows after which errors there is
+/// another round.
 pub trait Retries: Pattern<OpenError: PartialEq, CreateError: PartialEq> {
-    /// The errors after which there is one.
+    /// The errors after which there is another round.
     ghost retried: { Retried Self.OpenError Self.CreateError };
 
     /// They are those of the refusals that are retried with every pattern, whatever a builder asks.
@@ -15,7 +16,7 @@ pub trait Retries: Pattern<OpenError: PartialEq, CreateError: PartialEq> {
         (Self.meaning asked).open_refusal (Self.meaning asked).create_refusal };
 }
 
-/// Whether there is another round after an open that is refused so.
+/// Returns true if there is another round after an open that is refused so.
 pub fn retries_open<P: Retries>(pattern: &P, error: P::OpenError) -> bool
     ensures { result ≡ P.retried.of_open error }
 {
@@ -25,7 +26,7 @@ pub fn retries_open<P: Retries>(pattern: &P, error: P::OpenError) -> bool
     is_gone | is_corrupted | is_marked
 }
 
-/// Whether there is another round after a create that is refused so.
+/// Returns true if there is another round after a create that is refused so.
 pub fn retries_create<P: Retries>(pattern: &P, error: P::CreateError) -> bool
     ensures { result ≡ P.retried.of_create error }
 {

@@ -43,7 +43,7 @@ macro_rules! settings_of {
     };
 }
 
-/// The first verdict, and the second where the first refuses nothing.
+/// Returns the first verdict, or the second if the first refuses nothing.
 pub fn first_refusal<E: Copy>(first: Result<(), E>, second: Result<(), E>) -> Result<(), E>
     ensures { result ≡ and_then first second }
 {

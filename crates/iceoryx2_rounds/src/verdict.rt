@@ -9,7 +9,7 @@ use iceoryx2_attribute::attribute::{AttributeSet, AttributeVerifier};
 use iceoryx2_description::event::EventId;
 use iceoryx2_description::time::Duration;
 
-/// Refuses a number that is less than the required one, where that is asked for.
+/// Refuses a number that is less than the required one, if the setting is marked.
 #[tactic(auto, unfolding(crate::specs::Verdict::verdict, crate::specs::Verdict::marked_clauses, crate::specs::Verdict::at_least))]
 pub fn need_at_least<E: Copy>(
     is_marked: bool,
@@ -26,7 +26,7 @@ pub fn need_at_least<E: Copy>(
     }
 }
 
-/// Refuses another flag than the required one, where that is asked for.
+/// Refuses another flag than the required one, if the setting is marked.
 #[tactic(auto, unfolding(crate::specs::Verdict::verdict, crate::specs::Verdict::marked_clauses, crate::specs::Verdict::flag_is))]
 pub fn need_flag<E: Copy>(
     is_marked: bool,
@@ -44,7 +44,7 @@ pub fn need_flag<E: Copy>(
     }
 }
 
-/// Refuses another event than the required one, or none for one, where that is asked for.
+/// Refuses another event than the required one, or none instead of one, if the setting is marked.
 #[tactic(auto, unfolding(crate::specs::Verdict::verdict, crate::specs::Verdict::marked_clauses, crate::specs::Verdict::number_is))]
 pub fn need_event<E: Copy>(
     is_marked: bool,
@@ -61,8 +61,8 @@ pub fn need_event<E: Copy>(
     }
 }
 
-/// Refuses another length of time than the required one, or none for one, where that is asked
-/// for.
+/// Refuses another length of time than the required one, or none instead of one, if the setting is
+/// marked.
 #[tactic(auto, unfolding(crate::specs::Verdict::verdict, crate::specs::Verdict::marked_clauses, crate::specs::Verdict::span_is))]
 pub fn need_duration<E: Copy>(
     is_marked: bool,
@@ -93,7 +93,8 @@ pub fn need_attributes<E: Copy>(
     }
 }
 
-/// What a verdict means: each clause is met, or its error is that of the first clause that isn't.
+/// The meaning of a verdict: each clause is met, or its error is that of the first clause that
+/// isn't.
 #[tactic(auto, using(crate::proofs::Verdicts::verdict_is))]
 pub fn verdict_law<E: Copy>()
     ensures { (clauses : List (Clause E)) → IsVerdict clauses (verdict clauses) }

@@ -3,7 +3,7 @@
 ghost use Rattle.std.specs.Prelude.{◌≡◌};
 ghost use Rattle.iceoryx2_rounds.specs.Zeros.{at_least_one};
 
-/// Zero becomes one.
+/// Returns the value, or one instead of zero.
 pub fn raise_zero(value: u64) -> u64
     ensures { result ≡ at_least_one value }
 {

@@ -1,5 +1,5 @@
-//! Nodes and builders, what they ask of the types of a message, what a look may find wrong, and the markers in whose
-//! place a type may be told.
+//! Nodes and builders, their demands of the types of a message, the faults that a look may find,
+//! and the markers that a named type may replace.
 
 pub mod event;
 pub mod publish_subscribe;

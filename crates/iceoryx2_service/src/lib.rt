@@ -1,17 +1,20 @@
-//! The layer under one name: sessions of commands over a table or over a log that processes share, and what they stand
-//! on.
+//! The layer under one name: sessions of commands over a table or over a log that processes share,
+//! and the crates below them.
 //!
-//! `laws::promise_of_builders()`: every call of each builder, with any hasher, settings, types and attributes, and
-//! whatever the clock answers, keeps `Promise`: over a table, over any world, and where chosen accesses are
-//! refused. Nothing is asked of the builder. `laws::promise_over_logs()`: so does each call in the name of a
-//! journal's own node, for any log and whatever stands in it (`PromiseOverLog`).
+//! `laws::promise_of_builders()`: every call of each builder, with any hasher, settings, types and
+//! attributes, and whatever the clock answers, keeps `Promise`. It does over a table, over any
+//! world, and when chosen accesses are refused. Nothing is asked of the builder.
+//! `laws::promise_over_logs()`: each call in the name of a journal's own node does so too, for any
+//! log and whatever is in it (`PromiseOverLog`).
 //!
-//! `laws::sessions_over_logs()`, of any number of sessions over journals that have read fronts of one list of known
-//! entries, which a file's aren't: in all slots factories of one service and number carry one description
-//! (`HoldsOneDescription`), and where nothing that is read elsewhere is in an own node's name no more nodes hold one than
-//! its description allows (`FewHold`). Both hold over any number of compactions (`HoldsOneAcross`, `FewHoldAcross`).
-//! `laws::opens_again()`: what a call has given, an open by any node takes that has the same settings and types, over a
-//! table that nobody else uses, with a place and a number left, or is out of memory (`OpensAgain`).
+//! `laws::sessions_over_logs()` speaks of any number of sessions over journals that have read
+//! prefixes of one list of known entries. A file's entries aren't known. In all slots, factories of
+//! one service and number carry one description (`HoldsOneDescription`). If nothing that is read
+//! elsewhere is in an own node's name, no more nodes hold one than its description allows
+//! (`FewHold`). Both hold over any number of compactions (`HoldsOneAcross`, `FewHoldAcross`).
+//! `laws::opens_again()`: an open by any node with the same settings and types takes what a call
+//! has given, or is out of memory. This holds over a table that nobody else uses, with a place and
+//! a number left (`OpensAgain`).
 #![tactic(auto)]
 
 pub mod builder;

@@ -1,4 +1,4 @@
-//! What the calls of each builder come to, with nothing asked of the builder.
+//! The promise of each builder's calls, with nothing asked of the builder.
 
 ghost use Rattle.std.specs.Prelude.{ℕ, List, Result};
 ghost use Rattle.iceoryx2_attribute.specs.Attributes.{Pair};
@@ -23,14 +23,16 @@ ghost use Rattle.iceoryx2_service.specs.SharedSlots.{HoldsOneAcross, FewHoldAcro
 
 use iceoryx2_log::log::Log;
 
-/// The promise, of every call of each builder: any of its three, with any hasher, any settings and types,
-/// any attributes, and whatever the clock says.
+/// The promise of every call of each builder: any of its three, with any hasher, any settings and
+/// types, any attributes, and whatever the clock says.
 ///
-/// Over a table, over any world, whatever others do between its accesses and whichever of these are refused
-/// by a fault, and over a storage that refuses chosen accesses of a table, it is within fixed counts. After
-/// each of its accesses each open factory is open, whatever steps peers take, and so is the one that it gave,
-/// until its own ticket is released. That one meets what the builder was asked, or holds its adjusted settings
-/// and attributes. Where other nodes act too, it is so of own nodes' factories, the caller's among them.
+/// A call is within fixed counts over a table, over a storage that refuses chosen accesses of a
+/// table, and over any world. Over a world this holds whatever others do between the call's
+/// accesses and whichever of these a fault refuses. After each of its accesses each open factory is
+/// open, whatever steps peers take. So is the factory that the call gave, until its own ticket is
+/// released. That factory meets what the builder was asked, or holds its adjusted settings and
+/// attributes. If other nodes act too, this holds for own nodes' factories, the caller's among
+/// them.
 pub fn promise_of_builders()
     ensures events { (hash_of : ℕ → List ℕ → ServiceHash) (b : EventBuilderState) (way : Way)
         (defined : List Pair) (required : Requirements) (now : Result Span ClockFault)
@@ -46,11 +48,12 @@ pub fn promise_of_builders()
 /// The promise over a log that processes share: for any log and whatever stands in it, of every call of each builder in
 /// the name of an own node.
 ///
-/// For every builder and every sequence of answers of the log, such a call is within fixed counts and answers what its
-/// word determines. After each of its accesses, whatever other processes append between them and whichever accesses are
-/// refused, every open factory of an own node carries its hash's one published description, its node stands among at
-/// most `max_nodes`, and its segment stays, until its own ticket is released. The factory that the call gave meets what
-/// the builder was asked, or holds its adjusted settings and attributes.
+/// For every builder and every sequence of answers of the log, such a call is within fixed counts
+/// and answers what its word determines. Other processes may append between its accesses, and any
+/// access may be refused. After each of its accesses, every open factory of an own node carries its
+/// hash's one published description, its node is among at most `max_nodes`, and its segment stays,
+/// until its own ticket is released. The factory that the call gave meets what the builder was
+/// asked, or holds its adjusted settings and attributes.
 pub fn promise_over_logs<L: Log>()
     ensures events { (nodes : List ℕ) (hash_of : ℕ → List ℕ → ServiceHash) (b : EventBuilderState) (way : Way)
         (defined : List Pair) (required : Requirements) (now : Result Span ClockFault)
@@ -65,10 +68,11 @@ pub fn promise_over_logs<L: Log>()
         → PromiseOverLog L.contents L.held nodes (request_response_call hash_of b messages way defined required) }
 {}
 
-/// What sessions hold together whose processes share a log, however many there are.
+/// Laws of what sessions hold together if their processes share a log, however many there are.
 ///
-/// The premise is that each journal has read a front of one list of entries, which are known, and that each slot's
-/// factory is of an own node and stands, as it does after each command of an own node. A file's entries are never known.
+/// The premise is that each journal has read a prefix of one list of known entries, and that each
+/// slot's factory is of an own node and stands. A factory stands so after each command of an own
+/// node. A file's entries are never known.
 pub fn sessions_over_logs<L: Log>()
     // In all slots factories of one service and number carry one description.
     ensures one { (counter : ℕ) (entries : List Entry) → HoldsOneDescription L.contents counter entries }
@@ -81,13 +85,13 @@ pub fn sessions_over_logs<L: Log>()
     ensures few_across { FewHoldAcross L.contents }
 {}
 
-/// What a call of a builder has given, whichever of its three, an open with the same settings and
-/// types takes over a table that nobody else uses, whichever node calls.
+/// An open takes what any of a builder's three calls has given, if the open has the same settings
+/// and types. This holds over a table that nobody else uses, whichever node calls.
 ///
-/// While the factory stands, or another node's that carries the same, with a place for the node and a
-/// number left, the open is Ok or out of memory, whatever attributes it requires that are met by those
-/// of what is carried. So a service that was created with attributes is opened by each node that
-/// requires none, or some of them.
+/// It holds while the factory stands, or another node's factory that carries the same, with a place
+/// for the node and a number left. The open is then Ok or out of memory, whatever attributes it
+/// requires that are met by those of what is carried. So a service that was created with attributes
+/// is opened by each node that requires none, or some of them.
 pub fn opens_again()
     ensures events { (hash_of : ℕ → List ℕ → ServiceHash) (b : EventBuilderState) (way : Way)
         (defined : List Pair) (required : Requirements) (now : Result Span ClockFault)

@@ -1,5 +1,5 @@
-//! Sessions of commands, over which storages they are, what they are given, what they answer, and the laws of
-//! their calls over a table.
+//! Sessions of commands, their storages, their commands and replies, and the laws of their calls
+//! over a table.
 
 pub use iceoryx2_builder::command::{
     Call, Command, EventSetter, How, PublishSubscribeSetter, Refusal, Reply, RequestResponseSetter,

@@ -14,8 +14,9 @@ use iceoryx2_attribute::attribute::{AttributeSpecifier, AttributeVerifier};
 use iceoryx2_builder::command::{How, Refusal};
 use iceoryx2_description::time::{ClockFault, Time};
 
-/// A builder of one pattern, over a storage. Each of its calls is a function of its own, which puts what it opens into
-/// a free slot and gives its number: so none holds what another may answer, and no factory is handed up.
+/// A builder of one pattern, over a storage. Each of its calls is a function of its own, which puts
+/// what it opens into a free slot and returns its number. So no call holds what another call may
+/// answer, and no factory is passed up.
 pub trait CallsBuilder<S: Storage>: HasSetters {
     ghost use Rattle.std.specs.Prelude.{Result};
     ghost use Rattle.iceoryx2_attribute.specs.Requirements.{Requirements};
@@ -55,7 +56,7 @@ pub trait CallsBuilder<S: Storage>: HasSetters {
         ensures { OpensBy S.step (asked self ToOpen attributes.now now) storage.old slots.old slot
             result storage.new slots.new };
 
-    /// Opens the service, or creates it where there is none.
+    /// Opens the service, or creates it if there is none.
     fn open_or_create(
         self,
         attributes: &AttributeVerifier,
@@ -70,7 +71,7 @@ pub trait CallsBuilder<S: Storage>: HasSetters {
             result storage.new slots.new };
 }
 
-/// The builder call, after each setter.
+/// Calls each setter of a builder, and then the builder call.
 pub fn call<S: Storage, B: CallsBuilder<S>>(
     builder: B,
     settings: Vec<B::Setting>,
@@ -94,7 +95,7 @@ pub fn call<S: Storage, B: CallsBuilder<S>>(
     }
 }
 
-/// What a create defines of the attributes that a command names: the required pairs.
+/// Returns the attributes that a create defines of those that a command names: the required pairs.
 pub fn defined_by(attributes: AttributeVerifier) -> AttributeSpecifier
     ensures { result ≡ attributes.pairs }
 {

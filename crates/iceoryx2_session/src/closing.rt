@@ -1,11 +1,12 @@
-//! How a session closes what it has open, whatever the pattern.
+//! The closing of what a session has open, whatever the pattern.
 
 ghost use Rattle.iceoryx2_session.specs.Sessions.{ClosesFactoryBy, ClosesOrHandsBackBy};
 
 use iceoryx2_access::storage::Storage;
 use iceoryx2_rounds::port_factory::{CloseError, Registration};
 
-/// Closes it. What isn't at this storage, or isn't released by it, comes back: its ticket stays there.
+/// Closes the registration. If it isn't at this storage, or this storage doesn't release it, it is
+/// returned, and its ticket stays there.
 pub fn close<S: Storage>(registration: Registration, storage: &mut S) -> Option<Registration>
     ensures { ClosesOrHandsBackBy S.step storage.old registration result storage.new }
 {
@@ -20,7 +21,8 @@ pub fn close<S: Storage>(registration: Registration, storage: &mut S) -> Option<
     }
 }
 
-/// Closes it, and lets go of what comes back: its ticket stays there.
+/// Closes the registration as `close` does, and lets go of it if it is returned. Then its ticket
+/// stays there.
 pub fn close_or_abandon<S: Storage>(registration: Registration, storage: &mut S)
     ensures { ClosesFactoryBy S.step storage.old registration storage.new }
 {

@@ -1,4 +1,4 @@
-//! What is true of every session, whatever the storage.
+//! Laws of every session, whatever the storage.
 
 ghost use Rattle.std.specs.Prelude.{◌≡◌, List};
 ghost use Rattle.iceoryx2_access.specs.Letter.{Letter};
@@ -14,7 +14,7 @@ ghost use Rattle.iceoryx2_world.specs.Tables.{IsTableAccess};
 use crate::table_storage::TableStorage;
 use crate::world_storage::WorldStorage;
 
-/// What follows from how a command goes over a storage that shows a world.
+/// Laws that follow from how a command goes over a storage that shows a world.
 pub fn sessions_in_world<S: WorldStorage>()
     // The world goes along the same words of accesses, whatever others do before one, and whichever is refused,
     ensures runs { (old new : S) (word : List Letter)
@@ -29,7 +29,7 @@ pub fn sessions_in_world<S: WorldStorage>()
     ensures nodes { (old new : S) (word : List Letter) → Run S.step old word new → S.own new ≡ S.own old }
 {}
 
-/// What follows from how a command goes by a storage's own steps.
+/// Laws that follow from how a command goes by a storage's own steps.
 pub fn sessions<S: TableStorage>()
     // The table that the storage shows goes along the same words of accesses,
     ensures runs { (old new : S) (word : List Letter)

@@ -14,7 +14,7 @@ use iceoryx2_builder::command::{PublishSubscribeSetter, Refusal};
 use iceoryx2_description::time::{ClockFault, Time};
 use iceoryx2_types::types::{CustomHeaderMarker, CustomPayloadMarker, Slice};
 
-/// A builder whose types are named by setters.
+/// A builder whose types setters name.
 type Builder<S> = publish_subscribe::Builder<
     Slice<CustomPayloadMarker>,
     CustomHeaderMarker,

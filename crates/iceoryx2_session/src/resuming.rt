@@ -1,4 +1,4 @@
-//! Going on over a log by another handle, after the one before is over.
+//! Going on over a log with another handle, after the handle before it is over.
 
 ghost use Rattle.std.specs.Prelude.{◌≡◌, false, IfSome, IsTrue, Some};
 ghost use Rattle.iceoryx2_world.specs.Agreement.{KeepsAgreement};
@@ -12,9 +12,10 @@ use iceoryx2_log::log::Log;
 use iceoryx2_rounds::port_factory::Registration;
 use iceoryx2_testing::traced::Traced;
 
-/// A log that may go on by another handle.
+/// A log that may go on with another handle.
 pub trait Renewing: Log {
-    /// Another handle of the log, which stands where this one does. `None` where none can be had.
+    /// Returns another handle of the log, at the same place as this one. `None` if there can be
+    /// none.
     fn renewed(&self) -> Option<Self>
     where
         Self: Sized,
@@ -32,17 +33,17 @@ impl<L: Renewing> Renewing for CallLog<L> {
     }
 }
 
-/// A storage that may go on after what it stands on was gone.
+/// A storage that may go on after its log was gone.
 pub trait Resuming: WorldStorage {
-    /// Goes on where it stood, and shows all that was done since, by whoever it was: others may have cleaned up for its
-    /// own nodes, and what it did last may stand. Whoever calls this knows that nobody else has these nodes. Answers
-    /// whether that was all. Makes no access.
+    /// Goes on from its place, and shows all that was done since, by anyone: others may have
+    /// cleaned up for its own nodes, and its own last change may be there. The caller has to know
+    /// that nobody else has these nodes. Returns true if it shows all. Makes no access.
     fn resume(&mut self) -> bool
         ensures kept { KeepsAgreement (Self.world self.old) (Self.world self.new) }
         ensures same { Self.own self.new ≡ Self.own self.old }
         ensures after { Self.settles self.old self.new };
 
-    /// Whether the registration's ticket is there.
+    /// Returns true if the registration's ticket is there.
     fn has_ticket(&self, registration: &Registration) -> bool
         ensures { IsTrue result → ticket_of (Self.world self.now) registration.now.ticket
             ≡ Some (ticket_for registration.now) };

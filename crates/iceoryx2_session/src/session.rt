@@ -1,4 +1,4 @@
-//! Commands over a storage that shows a world, or a table, with places for what they open.
+//! Commands over a storage that shows a world, or a table, with slots for what they open.
 
 ghost use Rattle.std.specs.Prelude.{◌≡◌, ◌<◌, ℕ, false, IfOk, OnErr, OnOk, replicate, slice_set, None, []};
 ghost use Rattle.iceoryx2_table.specs.Holdings.{IsHolding};
@@ -24,8 +24,8 @@ use iceoryx2_types::types::CustomHeaderMarker;
 use std::alloc::AllocError;
 use std::mem;
 
-/// A storage that shows a world, and 64 slots for the factories that commands open over it. It has to be
-/// spent by `close_all`, or by `finish` where the storage shows a table.
+/// A storage that shows a world, and 64 slots for the factories that commands open over it. It has
+/// to be spent by `close_all`, or by `finish` if the storage shows a table.
 pub struct Session<S> {
     config: Config,
     storage: S,
@@ -35,8 +35,9 @@ pub struct Session<S> {
 /// A session over a table itself.
 pub type TableSession = Session<Table>;
 
-/// The builder call of a command, whose slot is free. The slot holds what is opened, and the answer is its number. The
-/// builder begins with the settings of its own pattern alone, so that those of the others aren't copied.
+/// Makes the builder call of a command, whose slot is free. The slot then holds what is opened, and
+/// the answer is its number. The builder starts with the settings of its own pattern alone, so the
+/// settings of the others aren't copied.
 fn build<S: Storage>(
     config: &Config,
     call: Call,
@@ -85,7 +86,7 @@ fn build<S: Storage>(
     }
 }
 
-/// Closes what the slot holds, if it holds something. It is free then.
+/// Closes what the slot holds, if it holds something. The slot is free then.
 fn close_slot<S: Storage>(slots: &mut Slots, slot: usize, storage: &mut S)
     requires { slot < slot_count }
     ensures after { slots.new ≡ slice_set slots.old slot None }
@@ -113,7 +114,8 @@ impl<S: WorldStorage> Session<S> {
     ghost use Rattle.iceoryx2_session.specs.StandingSlots.{AppliesStandingInWorld, IsOfOwn, OwnsTicketsInWorld};
     ghost use Rattle.iceoryx2_session.specs.StandingSlots.{SlotsStandInWorld};
 
-    /// A session whose nodes have this configuration, over a storage that shows a world. All its slots are free.
+    /// Returns a session over a storage that shows a world. Its nodes have this configuration, and
+    /// all its slots are free.
     pub fn over(config: Config, storage: S) -> Session<S>
         ensures state { own_state result
             ≡ record { config = config; table = storage; slots = replicate slot_count None } }
@@ -128,8 +130,10 @@ impl<S: WorldStorage> Session<S> {
         }
     }
 
-    /// Applies one command. The slot is tested before anything is called. A close that the storage releases frees
-    /// the slot, and what it didn't remove stays there. If it didn't release the factory the slot holds that as before.
+    /// Applies one command, and returns its reply. The slot is tested before anything is called. If
+    /// the storage releases the factory of a close, the slot is free, and anything that the close
+    /// didn't remove stays there. If the storage doesn't release the factory, the slot holds it as
+    /// before.
     pub fn apply_shared(&mut self, command: Command) -> Reply
         // It is the builder call or the close that it names, along a word of it,
         ensures own { AppliesBy S.step S.world (own_state self.old) command result (own_state self.new) }
@@ -165,8 +169,9 @@ impl<S: WorldStorage> Session<S> {
         self.dispatch(command)
     }
 
-    /// Applies one command as `apply_shared` does, as one call: whoever shares the storage waits from its first access
-    /// to its last. So over a log it is refused before its first access because others have the log, or not at all.
+    /// Applies one command as `apply_shared` does, as one call: all others that share the storage
+    /// wait from its first access to its last. So over a log, the command can be refused because
+    /// others have the log only before its first access, not later.
     pub fn apply_held(&mut self, command: Command) -> Reply
         ensures own { AppliesHeld S.spans S.step S.world (own_state self.old) command result (own_state self.new) }
 
@@ -194,14 +199,15 @@ impl<S: WorldStorage> Session<S> {
         reply
     }
 
-    /// A call begins: whoever shares the storage waits from its first access on, up to `end_call`.
+    /// Begins a call: all others that share the storage wait from its first access on, until
+    /// `end_call`.
     pub fn begin_call(&mut self)
         ensures { SpansSession S.spans (own_state self.old) (own_state self.new) }
     {
         self.storage.begin_call();
     }
 
-    /// The call ends.
+    /// Ends the call.
     pub fn end_call(&mut self)
         ensures spans { SpansSession S.spans (own_state self.old) (own_state self.new) }
         ensures ended { S.in_call (own_state self.new).table ≡ false }
@@ -209,8 +215,8 @@ impl<S: WorldStorage> Session<S> {
         self.storage.end_call();
     }
 
-    /// Applies commands in order, and gives as many replies, each the one to its command. Room for
-    /// all replies is asked for first.
+    /// Applies commands in order, and returns one reply to each command, in the same order. It asks
+    /// for room for all replies first.
     pub fn run_shared(&mut self, commands: Vec<Command>) -> Result<Vec<Reply>, AllocError>
         // Where there is no room, nothing is carried out.
         ensures refused { OnErr result (own_state self.new ≡ own_state self.old) }
@@ -307,7 +313,7 @@ impl<S: WorldStorage> Session<S> {
         }
     }
 
-    /// Shows what others have done up to now, as far as that can be had. Makes no access.
+    /// Shows what others have done up to now, as far as it can be read. Makes no access.
     pub fn refresh(&mut self)
         // The slots hold what they held.
         ensures slots { own_state self.new
@@ -336,11 +342,11 @@ impl<S: WorldStorage> Session<S> {
         self.storage.refresh()
     }
 
-    /// Gives back what a node has that isn't an own one, by accesses in its name, until it has nothing. Whoever calls
-    /// this knows that the node is dead.
+    /// Gives back what a node has that isn't an own one, by accesses in its name, until it has
+    /// nothing. The caller has to know that the node is dead.
     ///
-    /// `IsOwn` where it is an own node, and `Refused` where what the storage stands on refused; it can be done again
-    /// then.
+    /// The errors are `IsOwn` if the node is an own one, and `Refused` if something below the
+    /// storage refused. After `Refused` it can be called again.
     pub fn clean(&mut self, node: u64) -> Result<Cleaned, CleanError>
         // The slots hold what they held.
         ensures slots { own_state self.new
@@ -372,10 +378,11 @@ impl<S: WorldStorage> Session<S> {
         self.storage.clean(node)
     }
 
-    /// Gives back what an own node has besides the factories of the slots, by accesses of its own: what its calls left
-    /// that were refused between two of their accesses. It can be done between any two commands, and before the end.
+    /// Gives back what an own node has besides the factories of the slots, by accesses of its own.
+    /// Calls of the node that were refused between two of their accesses may have left it. It can
+    /// be called between any two commands, and before the end.
     ///
-    /// `Refused` where what the storage stands on refused; it can be done again then.
+    /// The error is `Refused` if something below the storage refused. Then it can be called again.
     pub fn settle(&mut self, node: u64) -> Result<Cleaned, CleanError>
         // The slots hold what they held.
         ensures slots { own_state self.new
@@ -409,23 +416,23 @@ impl<S: WorldStorage> Session<S> {
         self.storage.settle(node, &tickets[..count])
     }
 
-    /// The storage, for its readers.
+    /// Returns the storage, for its readers.
     pub fn storage(&self) -> &S
         ensures { result.now ≡ (own_state self.now).table }
     {
         &self.storage
     }
 
-    /// What the slot holds: the node, and what it and its service agreed on. `None` where the slot is free, and past
-    /// slot 63.
+    /// Returns what the slot holds: the node, and what it and its service agreed on. `None` if the
+    /// slot is free, or past slot 63.
     pub fn registration(&self, slot: usize) -> Option<&Registration>
         ensures { option_copied result ≡ held_at (own_state self.now).slots slot }
     {
         self.slots.get(slot)
     }
 
-    /// Lets go of what the slot holds without an access, and gives whether it held something. The slot is free then.
-    /// The node keeps its place at the service, until it is cleaned.
+    /// Lets go of what the slot holds, without an access, and returns true if it held something.
+    /// The slot is free then. The node keeps its place at the service until it is cleaned.
     pub fn abandon(&mut self, slot: usize) -> bool
         ensures held { result ≡ is_some (held_at (own_state self.old).slots slot) }
 
@@ -448,7 +455,8 @@ impl<S: WorldStorage> Session<S> {
         }
     }
 
-    /// Lets go of what all slots hold without an access. They are free then, and their nodes keep their places.
+    /// Lets go of what all slots hold, without an access. The slots are free then, and their nodes
+    /// keep their places.
     fn abandon_all(&mut self)
         ensures { own_state self.new ≡ record (own_state self.old) { slots = replicate slot_count None } }
     {
@@ -456,8 +464,8 @@ impl<S: WorldStorage> Session<S> {
         slots.destroy();
     }
 
-    /// Closes the factories of all slots, in ascending order, and gives the storage back. What it refused to release
-    /// or to remove stays there.
+    /// Closes the factories of all slots, in ascending order, and returns the storage. Anything
+    /// that the storage refused to release or to remove stays there.
     pub fn close_all(self) -> S
         // Each is closed along a word of close.
         ensures own { ClosesSlotsBy S.step (own_state self).table (own_state self).slots result }
@@ -484,7 +492,8 @@ impl<S: WorldStorage> Session<S> {
         storage
     }
 
-    /// The same as one call: whoever shares the storage waits from the first access to the last.
+    /// Does the same as `close_all`, as one call: all others that share the storage wait from the
+    /// first access to the last.
     pub fn close_all_held(self) -> S
         ensures own { ClosesHeld S.spans S.step (own_state self).table (own_state self).slots result }
 
@@ -512,9 +521,10 @@ impl<S: Resuming> Session<S> {
     ghost use Rattle.iceoryx2_session.specs.SessionStates.{own_nodes, own_state, world_state};
     ghost use Rattle.iceoryx2_session.specs.StandingSlots.{SlotsStandInWorld};
 
-    /// Goes on after what the storage stands on was gone. Answers whether the factories of all slots stand still. Where
-    /// one doesn't, or not all could be shown, all slots are free then, and what is left of their factories is owed.
-    /// Whoever calls this knows that nobody else has their nodes.
+    /// Goes on after the log below the storage was gone, and returns true if the factories of all
+    /// slots still stand. If one doesn't, or not all could be shown, all slots are free then, and
+    /// anything that is left of their factories is owed. The caller has to know that nobody else
+    /// has its nodes.
     pub fn resume(&mut self) -> bool
         ensures resumes { ResumesSession S.settles result (own_state self.old) (own_state self.new) }
 
@@ -537,7 +547,7 @@ impl<S: Resuming> Session<S> {
         false
     }
 
-    /// Whether each factory of a slot has its ticket.
+    /// Returns true if each factory of a slot has its ticket.
     fn has_tickets(&self) -> bool
         ensures { IsTrue result → HaveTickets (S.world (own_state self.now).table) (own_state self.now).slots }
     {
@@ -569,7 +579,7 @@ impl<S: TableStorage> Session<S> {
     ghost use Rattle.iceoryx2_session.specs.QuietSessions.{IsUnchanged, RepliesNoChange};
     ghost use Rattle.iceoryx2_access.specs.Run.{Each};
 
-    /// A session whose nodes have this configuration. All its slots are free.
+    /// Returns a session whose nodes have this configuration. All its slots are free.
     pub fn new(config: Config, storage: S) -> Session<S>
         ensures state { own_state result
             ≡ record { config = config; table = storage; slots = replicate slot_count None } }
@@ -584,7 +594,7 @@ impl<S: TableStorage> Session<S> {
         Session::over(config, storage)
     }
 
-    /// Applies one command. The slot is tested before anything is called.
+    /// Applies one command, and returns its reply. The slot is tested before anything is called.
     pub fn apply(&mut self, command: Command) -> Reply
         // Over any storage it is the builder call or the close that it names, along a word of it,
         ensures own { AppliesBy S.step (shown_world S.shown) (own_state self.old) command result (own_state self.new) }
@@ -622,8 +632,8 @@ impl<S: TableStorage> Session<S> {
         self.apply_shared(command)
     }
 
-    /// Applies commands in order, and gives as many replies, each the one to its command. Room for
-    /// all replies is asked for first.
+    /// Applies commands in order, and returns one reply to each command, in the same order. It asks
+    /// for room for all replies first.
     pub fn run(&mut self, commands: Vec<Command>) -> Result<Vec<Reply>, AllocError>
         // Where there is no room, nothing is carried out.
         ensures refused { OnErr result (own_state self.new ≡ own_state self.old) }
@@ -666,7 +676,7 @@ impl<S: TableStorage> Session<S> {
         self.run_shared(commands)
     }
 
-    /// Closes the factories of all slots, in ascending order, and gives the storage back.
+    /// Closes the factories of all slots, in ascending order, and returns the storage.
     pub fn finish(self) -> S
         // Over any storage each is closed along a word of close,
         ensures own { ClosesSlotsBy S.step (own_state self).table (own_state self).slots result }
@@ -700,7 +710,7 @@ impl<S: TableStorage> Session<S> {
 impl Session<Table> {
     ghost use Rattle.iceoryx2_session.specs.SessionStates.{own_state};
 
-    /// The table, for its readers.
+    /// Returns the table, for its readers.
     pub fn table(&self) -> &Table
         ensures { result.now ≡ (own_state self.now).table }
     {

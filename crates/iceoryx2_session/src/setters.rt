@@ -11,12 +11,12 @@ pub trait HasSetters {
     /// The builder after one setter.
     ghost with_setting: { Self → Self.Setting → Self };
 
-    /// Carries out one setter, by its name.
+    /// Calls one setter, by its name.
     fn with_setting(self, setting: Self::Setting) -> Self
         ensures { result ≡ with_setting self setting };
 }
 
-/// The builder after each setter, in order.
+/// Returns the builder after each setter, in order.
 pub fn with_settings<B: HasSetters>(mut builder: B, settings: Vec<B::Setting>) -> B
     ensures { result ≡ set_all B.with_setting builder settings.items }
 {

@@ -1,4 +1,4 @@
-//! The places for what a session's factories hold.
+//! The slots for what a session's factories hold.
 
 ghost use Rattle.std.specs.Prelude.{◌≡◌, ◌<◌, ◌≤◌, slice_set, slice_get, Some, None, MatchBool, replicate, length};
 ghost use Rattle.std.specs.Prelude.{take};
@@ -9,7 +9,7 @@ use iceoryx2_rounds::port_factory::Registration;
 use iceoryx2_rounds::port_factory::factory::{Kind, PortFactory};
 use std::marker::Model;
 
-/// A place for each slot, which may hold the registration of a factory. They have to be spent.
+/// A place for each slot, which may hold the registration of a factory. Slots have to be spent.
 pub struct Slots {
     places: [Option<Registration>; SLOTS],
 }
@@ -54,7 +54,7 @@ impl Slots {
     ghost use Rattle.std.specs.Prelude.{is_some, option_copied};
     ghost use Rattle.iceoryx2_session.specs.Slots.{FreeAt, TakenAt, held_at, tickets_of};
 
-    /// Slots that are all free.
+    /// Returns slots that are all free.
     pub fn new() -> Slots
         ensures { result ≡ replicate slot_count None }
     {
@@ -73,7 +73,7 @@ impl Slots {
         }
     }
 
-    /// What the slot holds, where there is such a slot.
+    /// Returns what the slot holds, if there is such a slot.
     pub fn get(&self, slot: usize) -> Option<&Registration>
         ensures value { option_copied result ≡ held_at self.now slot }
         ensures length { length self.now ≡ slot_count }
@@ -84,7 +84,7 @@ impl Slots {
         }
     }
 
-    /// Whether there is such a slot, and it holds something.
+    /// Returns true if there is such a slot and it holds something.
     fn holds(&self, slot: usize) -> bool
         ensures value { result ≡ is_some (held_at self.now slot) }
         ensures length { length self.now ≡ slot_count }
@@ -95,7 +95,8 @@ impl Slots {
         }
     }
 
-    /// The tickets of the factories that the slots hold, in front, and how many they are.
+    /// Returns the tickets of the factories that the slots hold, at the front of the array, and
+    /// their number.
     pub fn tickets(&self) -> ([u64; SLOTS], usize)
         ensures tickets { take result.1 result.0 ≡ tickets_of self.now }
         ensures count { result.1 ≤ slot_count }
@@ -111,7 +112,7 @@ impl Slots {
         (tickets, count)
     }
 
-    /// What the slot holds. It is free then.
+    /// Takes what the slot holds. The slot is free then.
     pub fn take(&mut self, slot: usize) -> Option<Registration>
         requires { slot < slot_count }
         ensures value { slice_get self.old slot ≡ Some result }
@@ -120,7 +121,7 @@ impl Slots {
         self.places[slot].take()
     }
 
-    /// What the slot holds, where there is such a slot. It is free then.
+    /// Takes what the slot holds, if there is such a slot. The slot is free then.
     pub fn remove(&mut self, slot: usize) -> Option<Registration>
         ensures value { result ≡ held_at self.old slot }
         ensures after { self.new ≡ slice_set self.old slot None }
@@ -140,7 +141,7 @@ impl Slots {
         abandon(self.places[slot].replace(registration))
     }
 
-    /// Puts a factory into a free slot, and gives its service's number.
+    /// Puts a factory into a free slot, and returns its service's number.
     pub fn keep<V: Service, K: Kind>(&mut self, slot: usize, factory: PortFactory<V, K>) -> u64
         requires in_range { slot < slot_count }
         requires free { FreeAt self.old slot }

@@ -1,4 +1,4 @@
-//! Storages that show a table, and the services that stand in them.
+//! Storages that show a table, and the services that are in them.
 
 ghost use Rattle.std.specs.Prelude.{◌≡◌};
 ghost use Rattle.iceoryx2_access.specs.Letter.{Letter};
@@ -12,19 +12,20 @@ use iceoryx2_table::table::TableOver;
 use iceoryx2_testing::traced::Traced;
 use std::marker::PhantomData;
 
-/// A storage that shows a table: each of its accesses is one of that table, of which each node is one's own.
+/// A storage that shows a table. Each of its accesses is one of that table, and each node is an own
+/// one.
 pub trait TableStorage: WorldStorage {
     /// The table that it shows.
     ghost shown: { Self → TableState };
 
-    /// That each access is one of the table.
+    /// Each access is one of the table.
     ghost accesses: { (old : Self) (letter : Letter) (new : Self)
         → Self.step old letter new → IsTableAccess (shown old) letter (shown new) };
 
-    /// That the world that it shows is the table's.
+    /// The world that it shows is the table's.
     ghost same_world: { (storage : Self) → (shown storage).world ≡ Self.world storage };
 
-    /// That each node is its own.
+    /// Each node is its own.
     ghost of_everyone: { (storage : Self) → Self.own storage ≡ everyone };
 }
 
@@ -52,7 +53,7 @@ impl<S: TableStorage> TableStorage for Traced<S> {
     ghost of_everyone = { λ traced. S.of_everyone traced.inner };
 }
 
-/// Services that stand in a storage of this type, under hashes by SHA-1.
+/// Services in a storage of this type, under hashes by SHA-1.
 pub struct ServiceOver<S> {
     storage: PhantomData<S>,
 }

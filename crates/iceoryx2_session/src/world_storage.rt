@@ -18,90 +18,92 @@ use iceoryx2_testing::traced::Traced;
 use iceoryx2_world::listing::Entry;
 use std::alloc::AllocError;
 
-/// A storage that shows a world, with nodes of its own. Each of its accesses is one of that world, after what others
-/// do, or it is refused by a fault after that.
+/// A storage that shows a world, with nodes of its own. Each of its accesses is one of that world,
+/// after what others do, or a fault refuses it after that.
 pub trait WorldStorage: Storage {
     /// The world that it shows.
     ghost world: { Self → World };
 
-    /// Which nodes are its own.
+    /// True for the nodes that are its own.
     ghost own: { Self → ℕ → Bool };
 
-    /// What showing others' doings and cleaning up change.
+    /// The changes that showing others' doings and cleaning up make.
     ghost shows: { Self → Self → Type 0 };
 
-    /// Shows what others have done up to now, as far as that can be had. Makes no access.
+    /// Shows what others have done up to now, as far as it can be read. Makes no access.
     fn refresh(&mut self)
         ensures kept { Rely (own self.old) (world self.old) (world self.new) }
         ensures same { own self.new ≡ own self.old }
         ensures shows { shows self.old self.new };
 
-    /// Gives back what a node has that isn't an own one, by accesses in its name, until it has nothing. Whoever calls
-    /// this knows that the node is dead. To all others it is a node that closes its factories.
+    /// Gives back what a node has that isn't an own one, by accesses in its name, until it has
+    /// nothing. The caller has to know that the node is dead. To all others it is a node that
+    /// closes its factories.
     ///
-    /// `IsOwn` where it is an own node, and `Refused` where what the storage stands on refused; it can be done again
-    /// then.
+    /// The errors are `IsOwn` if the node is an own one, and `Refused` if something below the
+    /// storage refused. After `Refused` it can be called again.
     fn clean(&mut self, node: u64) -> Result<Cleaned, CleanError>
         ensures kept { Rely (own self.old) (world self.old) (world self.new) }
         ensures same { own self.new ≡ own self.old }
         ensures gone { OnOk result (IsHolding (world self.new) node None) }
         ensures shows { shows self.old self.new };
 
-    /// What giving back of an own node changes.
+    /// The changes that giving back for an own node makes.
     ghost settles: { Self → Self → Type 0 };
 
-    /// What is so of a node that has given all back besides the factories with these tickets.
+    /// True of a node that has given all back besides the factories with these tickets.
     ghost is_settled: { Self → ℕ → List ℕ → Type 0 };
 
-    /// Gives back what an own node has besides the factories with these tickets, by accesses of its own. A call of the
-    /// node that was refused between two of its accesses may have left it.
+    /// Gives back what an own node has besides the factories with these tickets, by accesses of its
+    /// own. A call of the node that was refused between two of its accesses may have left it.
     ///
-    /// `Refused` where what the storage stands on refused; it can be done again then.
+    /// The error is `Refused` if something below the storage refused. Then it can be called again.
     fn settle(&mut self, node: u64, spared: &[u64]) -> Result<Cleaned, CleanError>
         ensures gives { SettlesInWorld (own self.old) node spared.now result (world self.old) (world self.new) }
         ensures same { own self.new ≡ own self.old }
         ensures after { settles self.old self.new }
         ensures rest { OnOk result (is_settled self.new node spared.now) };
 
-    /// Whether a call has begun, for which others may have to wait.
+    /// True if a call has begun, for which others may have to wait.
     ghost in_call: { Self → Bool };
 
-    /// What the begin and the end of a call change.
+    /// The changes that the begin and the end of a call make.
     ghost spans: { Self → Self → Type 0 };
 
-    /// A call begins. Whoever shares the storage waits from its first access on, up to `end_call`. Makes no access.
+    /// Begins a call. All others that share the storage wait from its first access on, until
+    /// `end_call`. Makes no access.
     fn begin_call(&mut self)
         ensures { spans self.old self.new };
 
-    /// The call ends. Makes no access.
+    /// Ends the call. Makes no access.
     fn end_call(&mut self)
         ensures spans { spans self.old self.new }
         ensures ended { in_call self.new ≡ false };
 
-    /// Each service of the world with a row or a segment, in the order of the hashes' bytes. Makes no access.
-    /// `AllocError` where there was no memory for the list.
+    /// Returns each service of the world with a row or a segment, in the order of the hashes'
+    /// bytes. Makes no access. `AllocError` if there was no memory for the list.
     fn list(&self) -> Result<Vec<Entry>, AllocError>
         ensures { IfOk result (λ entries. Lists (world self.now) entries.items) };
 
-    /// That each access is one of the world, whatever others do before it, or is refused then.
+    /// Each access is one of the world, whatever others do before it, or is refused then.
     ghost accesses: { (old : Self) (letter : Letter) (new : Self)
         → Self.step old letter new → IsFallibleUnder (own old) (world old) letter (world new) };
 
-    /// That no access changes which nodes are its own.
+    /// No access changes which nodes are its own.
     ghost keeps_own: { (old : Self) (letter : Letter) (new : Self)
         → Self.step old letter new → own new ≡ own old };
 
-    /// That others' doings and cleaning up leave what its own nodes rely on, and which nodes these are.
+    /// Others' doings and cleaning up leave what its own nodes rely on, and which nodes these are.
     ghost keeps_reliance: { (old : Self) (new : Self)
         → shows old new → Rely (own old) (world old) (world new) × (own new ≡ own old) };
 
-    /// That nothing need be shown,
+    /// Showing may change nothing,
     ghost shows_same: { (storage : Self) → shows storage storage };
 
-    /// and that more may be shown afterwards.
+    /// and more may be shown afterwards.
     ghost shows_both: { (old : Self) (mid : Self) (new : Self) → shows old mid → shows mid new → shows old new };
 
-    /// That the begin and the end of a call change neither the world nor which nodes are its own.
+    /// The begin and the end of a call change neither the world nor which nodes are its own.
     ghost keeps_world: { (old : Self) (new : Self)
         → spans old new → (world new ≡ world old) × (own new ≡ own old) };
 }

@@ -1,5 +1,5 @@
-//! A table within one process and one for many services, what their readers answer, the steps of others that may
-//! wait at them, and services that stand in them.
+//! A table within one process and one for many services, the answers of their readers, the steps of
+//! others that may wait at them, and services that are in them.
 
 pub use finite_map::FiniteMap;
 pub use finite_map::chunks::ChunkedMap;

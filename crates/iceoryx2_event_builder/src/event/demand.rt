@@ -26,7 +26,7 @@ use iceoryx2_rounds::{
 };
 use std::alloc::AllocError;
 
-/// Which settings a builder of events requires.
+/// The settings that a builder of events requires.
 #[derive(Clone, Copy, Debug, Default, PartialEq, Eq)]
 pub struct Marks {
     pub max_notifiers: bool,
@@ -39,7 +39,8 @@ pub struct Marks {
     pub deadline: bool,
 }
 
-/// What a builder of events asks of a service: settings, and which of them it requires.
+/// The demand of a builder of events: settings, and a mark for each setting that the builder
+/// requires.
 #[derive(Clone, Copy, Debug, PartialEq, Eq)]
 pub struct EventDemand {
     pub settings: event::StaticConfig,
@@ -47,7 +48,7 @@ pub struct EventDemand {
 }
 
 impl EventDemand {
-    /// The configured settings, of which none is required.
+    /// Returns the configured settings. None of them is required.
     pub(crate) fn start(defaults: config::Event) -> EventDemand
         ensures { result ≡ fresh_demand defaults }
     {
@@ -60,7 +61,7 @@ impl EventDemand {
         }
     }
 
-    /// Carries out one setter: sets the value, and marks the setting.
+    /// Calls one setter: sets the value, and marks the setting.
     pub(crate) fn set(&mut self, setting: EventSetter)
         ensures { self.new ≡ demand_with self.old setting }
     {
@@ -78,7 +79,7 @@ impl EventDemand {
     }
 }
 
-/// A deadline as a builder asks for it. A create sets the time.
+/// Returns a deadline as a builder asks for it. A create sets the time.
 fn deadline_before_creation(value: Option<Duration>) -> Option<Deadline>
     ensures { result ≡ option_map demanded_deadline value }
 {
@@ -91,7 +92,7 @@ fn deadline_before_creation(value: Option<Duration>) -> Option<Deadline>
     }
 }
 
-/// The deadline of a service that is created at this time.
+/// Returns the deadline of a service that is created at this time.
 fn deadline_at_creation(deadline: Option<Deadline>, now: Time) -> Option<Deadline>
     ensures { result ≡ option_map (created_deadline now) deadline }
 {
@@ -104,7 +105,7 @@ fn deadline_at_creation(deadline: Option<Deadline>, now: Time) -> Option<Deadlin
     }
 }
 
-/// A deadline's length, without the time of creation.
+/// Returns a deadline's length, without the time of creation.
 fn deadline_value(deadline: Option<Deadline>) -> Option<Duration>
     ensures { result ≡ value_of deadline }
 {
@@ -114,7 +115,8 @@ fn deadline_value(deadline: Option<Deadline>) -> Option<Duration>
     }
 }
 
-/// Whether a deadline is as long as is asked for, where that is asked for, or none where none is.
+/// If a deadline is asked for, tests whether the existing one is as long, or none if none is asked
+/// for.
 fn need_deadline(
     is_marked: bool,
     existing: Option<Deadline>,
@@ -132,7 +134,7 @@ fn need_deadline(
     )
 }
 
-/// Whether the existing settings offer what is marked.
+/// Tests whether the existing settings offer what is marked.
 fn verify_settings(
     demand: &EventDemand,
     existing: &event::StaticConfig,
@@ -220,7 +222,7 @@ impl Retries for EventDemand {
     ghost told = { λ asked. refl };
 }
 
-/// The error of an open or create that the rounds refuse so.
+/// Returns the error of an open or create for this refusal of the rounds.
 pub(crate) fn open_or_create_error(
     refusal: OpenOrCreateRefusal<EventOpenError, EventCreateError>,
 ) -> EventOpenOrCreateError

@@ -6,20 +6,20 @@ use iceoryx2_description::time::Duration;
 /// One setter of the builder of events, with its value.
 #[derive(Clone, Copy, Debug, PartialEq, Eq)]
 pub enum EventSetter {
-    /// How many notifiers the service has room for.
+    /// The number of notifiers that the service has room for.
     MaxNotifiers(u64),
-    /// How many listeners the service has room for.
+    /// The number of listeners that the service has room for.
     MaxListeners(u64),
     /// The greatest number that an event may have.
     EventIdMaxValue(u64),
-    /// For how many nodes the service is.
+    /// The number of nodes that the service has room for.
     MaxNodes(u64),
-    /// What is sent when a notifier is created, or that nothing is.
+    /// The event that is sent when a notifier is created. `None`: nothing is sent.
     NotifierCreatedEvent(Option<EventId>),
-    /// What is sent when a notifier goes, or that nothing is.
+    /// The event that is sent when a notifier goes. `None`: nothing is sent.
     NotifierDroppedEvent(Option<EventId>),
-    /// What is sent for a notifier whose process died, or that nothing is.
+    /// The event that is sent for a notifier whose process died. `None`: nothing is sent.
     NotifierDeadEvent(Option<EventId>),
-    /// Within what time a notifier has to notify again, or that it need not.
+    /// The time within which a notifier has to notify again. `None`: it need not.
     Deadline(Option<Duration>),
 }

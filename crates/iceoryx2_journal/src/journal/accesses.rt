@@ -93,7 +93,7 @@ impl<L: Log> Storage for Journal<L> {
         parts::remove_description(&mut self.world, &mut self.recorder, node, hash)
     }
 
-    /// `Other` too where the description's bytes find no memory.
+    /// Answers `Other` also if there was no memory for the description's bytes.
     fn publish(
         &mut self,
         node: u64,

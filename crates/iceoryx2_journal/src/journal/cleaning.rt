@@ -19,8 +19,8 @@ use crate::owed::{give_back_by, owed};
 use iceoryx2_log::log::Log;
 
 impl<L: Log> Journal<L> {
-    /// Makes a node an own one, after all that others appended was taken over. Whoever calls this knows that no other
-    /// process has the node.
+    /// Makes a node an own one, after the journal has taken over all that others appended. The
+    /// caller has to know that no other process has the node.
     pub fn adopt(&mut self, node: u64) -> Result<(), AdoptError>
         ensures adopts { Adopts L.contents node result self.old self.new }
         ensures hold { KeepsHold L.held self.old self.new }
@@ -48,11 +48,13 @@ impl<L: Log> Journal<L> {
         Ok(())
     }
 
-    /// Gives back what a node has, by accesses in its name, until it has nothing: each ticket, a service that it was
-    /// creating or had to remove, with the segment before what is written under its hash, and last its tags. Whoever
-    /// calls this knows that no other process has the node. To all others it is a node that closes its factories.
+    /// Gives back what a node has, by accesses in its name, until it has nothing. It gives back
+    /// each ticket, then a service that the node was creating or had to remove, with the segment
+    /// before what is written under its hash, and last the node's tags. The caller has to know that
+    /// no other process has the node. To all others it is a node that closes its factories.
     ///
-    /// `IsOwn` where it is an own node, and `Refused` where the log refused; it can be done again then.
+    /// The errors are `IsOwn` if the node is an own one, and `Refused` if the log refused. After
+    /// `Refused` it can be called again.
     pub fn clean(&mut self, node: u64) -> Result<Cleaned, CleanError>
         ensures cleans { Cleans L.contents node result self.old self.new }
         ensures hold { KeepsHold L.held self.old self.new }
@@ -98,12 +100,13 @@ impl<L: Log> Journal<L> {
         step_of(give_back(&mut self.world, &mut self.recorder, node, held))
     }
 
-    /// Gives back what an own node has besides the factories with these tickets, by accesses of its own: each other
-    /// ticket, each service that it was creating or had to remove, and each tag for a service for which it has no
-    /// ticket then. A call of the node that was refused between two of its accesses may have left these.
+    /// Gives back what an own node has besides the factories with these tickets, by accesses of its
+    /// own. It gives back each other ticket, each service that the node was creating or had to
+    /// remove, and each tag for a service for which the node has no ticket then. A call of the node
+    /// that was refused between two of its accesses may have left these.
     ///
-    /// `Refused` where the log refused, or the node isn't an own one and has something to give back. What was given
-    /// back before stays so, and it can be done again.
+    /// The error is `Refused` if the log refused, or if the node isn't an own one and has something
+    /// to give back. Anything that was given back before stays so, and it can be called again.
     pub fn settle(&mut self, node: u64, spared: &[u64]) -> Result<Cleaned, CleanError>
         // Each access gives something back that the node owes, and of these the last one may be refused.
         ensures settles { SettlesBy node spared.now (λ j. j.world) (IsJournalAccess L.contents) result

@@ -1,4 +1,4 @@
-//! Going on over another handle of the log.
+//! Going on with another handle of the log.
 
 ghost use Rattle.std.specs.Prelude.{◌≡◌, true, []};
 ghost use Rattle.iceoryx2_world.specs.Interference.{Rely};
@@ -12,10 +12,11 @@ use iceoryx2_log::log::Log;
 use std::mem;
 
 impl<L: Log + Drop> Journal<L> {
-    /// Goes on over another handle of its log, and takes over all that was appended since, in whoever's name. For a
-    /// process whose handle is over: others may have cleaned up for its nodes, and what it appended last may stand.
-    /// Whoever calls this knows that no other process has its nodes, and looks then which of its tickets stand.
-    /// Answers whether that was all. Else as `catch_up`. Compacts nothing.
+    /// Goes on with another handle of its log, and takes over all that was appended since, in
+    /// anyone's name. It is for a process whose handle is over: others may have cleaned up for its
+    /// nodes, and its last entry may be in the log. The caller has to know that no other process
+    /// has its nodes, and looks then which of its tickets stand. Returns true if it took over all.
+    /// If not, the journal is as after `catch_up`. Compacts nothing.
     pub fn resume(&mut self, log: L) -> bool
         ensures takes { Resumes L.contents log result self.old self.new }
         ensures hold { L.held self.new.log ≡ L.held log }

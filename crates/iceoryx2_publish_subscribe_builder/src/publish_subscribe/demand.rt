@@ -25,7 +25,7 @@ use iceoryx2_rounds::{
 use iceoryx2_types::types::MessageTypeDetails;
 use std::alloc::AllocError;
 
-/// Which settings a builder of publish-subscribe requires.
+/// The settings that a builder of publish-subscribe requires.
 #[derive(Clone, Copy, Debug, Default, PartialEq, Eq)]
 pub struct Marks {
     pub max_publishers: bool,
@@ -37,7 +37,8 @@ pub struct Marks {
     pub max_nodes: bool,
 }
 
-/// What a builder of publish-subscribe asks of a service: settings, and which of them it requires.
+/// The demand of a builder of publish-subscribe: settings, and a mark for each setting that the
+/// builder requires.
 #[derive(Clone, Copy, Debug, PartialEq, Eq)]
 pub struct PublishSubscribeDemand {
     pub settings: config::PublishSubscribe,
@@ -45,7 +46,7 @@ pub struct PublishSubscribeDemand {
 }
 
 impl PublishSubscribeDemand {
-    /// The configured settings, of which none is required.
+    /// Returns the configured settings. None of them is required.
     pub(crate) fn start(defaults: config::PublishSubscribe) -> PublishSubscribeDemand
         ensures { result ≡ fresh_demand defaults }
     {
@@ -56,15 +57,15 @@ impl PublishSubscribeDemand {
     }
 }
 
-/// What one call asks: settings, which of them are required, and the types of its messages as they
-/// were prepared.
+/// The demand of one call: settings, a mark for each setting that is required, and the types of its
+/// messages as they were prepared.
 #[derive(Debug, Drop, PartialEq, Eq)]
 pub struct PreparedDemand {
     pub demand: PublishSubscribeDemand,
     pub message: MessageTypeDetails,
 }
 
-/// Whether the existing settings offer what is marked.
+/// Tests whether the existing settings offer what is marked.
 fn verify_settings(
     demand: &PublishSubscribeDemand,
     existing: &publish_subscribe::StaticConfig,
@@ -183,7 +184,7 @@ impl Retries for PreparedDemand {
     ghost told = { λ asked. refl };
 }
 
-/// The error of an open or create that the rounds refuse so.
+/// Returns the error of an open or create for this refusal of the rounds.
 pub(crate) fn open_or_create_error(
     refusal: OpenOrCreateRefusal<PublishSubscribeOpenError, PublishSubscribeCreateError>,
 ) -> PublishSubscribeOpenOrCreateError

@@ -5,25 +5,25 @@ use iceoryx2_types::types::{Alignment, TypeDetail};
 /// One setter of the builder of publish-subscribe, with its value.
 #[derive(Debug, Drop, PartialEq, Eq)]
 pub enum PublishSubscribeSetter {
-    /// For how many publishers the service is.
+    /// The number of publishers that the service has room for.
     MaxPublishers(u64),
-    /// For how many subscribers the service is.
+    /// The number of subscribers that the service has room for.
     MaxSubscribers(u64),
-    /// How many samples a subscriber's buffer has room for.
+    /// The number of samples that a subscriber's buffer has room for.
     SubscriberMaxBufferSize(u64),
-    /// How many of the last samples a subscriber gets that comes later.
+    /// The number of the last samples that a subscriber gets when it joins later.
     HistorySize(u64),
-    /// How many samples a subscriber may borrow at one time.
+    /// The number of samples that a subscriber may borrow at one time.
     SubscriberMaxBorrowedSamples(u64),
-    /// Whether a full buffer's oldest sample gives way to a new one.
+    /// True if the oldest sample of a full buffer gives way to a new one.
     EnableSafeOverflow(bool),
-    /// For how many nodes the service is.
+    /// The number of nodes that the service has room for.
     MaxNodes(u64),
-    /// How far the payload is aligned at least, in bytes. It is no setting of the service: the
-    /// message's types tell it.
+    /// The least alignment of the payload, in bytes. It is no setting of the service: the message's
+    /// types tell it.
     PayloadAlignment(Alignment),
-    /// The type that stands in place of the payload's own.
+    /// The type that is used instead of the payload's own.
     PayloadType(TypeDetail),
-    /// The type that stands in place of the user header's own.
+    /// The type that is used instead of the user header's own.
     UserHeaderType(TypeDetail),
 }

@@ -25,7 +25,7 @@ use iceoryx2_rounds::{
 use iceoryx2_types::types::MessageTypeDetails;
 use std::alloc::AllocError;
 
-/// Which settings a builder of request-response requires.
+/// The settings that a builder of request-response requires.
 #[derive(Clone, Copy, Debug, Default, PartialEq, Eq)]
 pub struct Marks {
     pub enable_safe_overflow_for_requests: bool,
@@ -40,7 +40,8 @@ pub struct Marks {
     pub max_nodes: bool,
 }
 
-/// What a builder of request-response asks of a service: settings, and which of them it requires.
+/// The demand of a builder of request-response: settings, and a mark for each setting that the
+/// builder requires.
 #[derive(Clone, Copy, Debug, PartialEq, Eq)]
 pub struct RequestResponseDemand {
     pub settings: config::RequestResponse,
@@ -48,7 +49,7 @@ pub struct RequestResponseDemand {
 }
 
 impl RequestResponseDemand {
-    /// The configured settings, of which none is required.
+    /// Returns the configured settings. None of them is required.
     pub(crate) fn start(defaults: config::RequestResponse) -> RequestResponseDemand
         ensures { result ≡ fresh_demand defaults }
     {
@@ -59,8 +60,8 @@ impl RequestResponseDemand {
     }
 }
 
-/// What one call asks: settings, which of them are required, and the types of its requests and
-/// responses as they were prepared.
+/// The demand of one call: settings, a mark for each setting that is required, and the types of its
+/// requests and responses as they were prepared.
 #[derive(Debug, Drop, PartialEq, Eq)]
 pub struct PreparedDemand {
     pub demand: RequestResponseDemand,
@@ -200,7 +201,7 @@ impl Retries for PreparedDemand {
     ghost told = { λ asked. refl };
 }
 
-/// The error of an open or create that the rounds refuse so.
+/// Returns the error of an open or create for this refusal of the rounds.
 pub(crate) fn open_or_create_error(
     refusal: OpenOrCreateRefusal<RequestResponseOpenError, RequestResponseCreateError>,
 ) -> RequestResponseOpenOrCreateError

@@ -9,13 +9,13 @@ use iceoryx2_types::types::ZeroCopySend;
 use iceoryx2_types::types::request_response::{RequestHeader, ResponseHeader};
 use std::alloc::{AllocError, Global};
 
-/// What is given in place of the own types of a request and of a response, and how far their
-/// payloads are to be aligned.
+/// The types that are given instead of the own types of a request and of a response, and the least
+/// alignments of their payloads.
 #[derive(Debug, Drop, PartialEq, Eq)]
 pub struct RequestedMessages {
-    /// Of a request.
+    /// Those of a request.
     pub request: RequestedTypes,
-    /// Of a response.
+    /// Those of a response.
     pub response: RequestedTypes,
 }
 
@@ -24,7 +24,7 @@ impl Clone for RequestedMessages {
 
     ghost is_clone = { λ types copy. copy ≡ types };
 
-    /// `AllocError` where there was no memory for the names of types.
+    /// Returns `AllocError` if there was no memory for the names of types.
     fn clone(&self) -> Result<RequestedMessages, AllocError> {
         let request = self.request.clone()?;
         let response = self.response.clone()?;
@@ -33,7 +33,7 @@ impl Clone for RequestedMessages {
 }
 
 impl RequestedMessages {
-    /// Each type is the message's own, and aligned as it is.
+    /// Returns no other types: each type is the message's own, and aligned as it is.
     pub(crate) fn none() -> RequestedMessages
         ensures { result ≡ no_message_types }
     {
@@ -43,9 +43,9 @@ impl RequestedMessages {
         }
     }
 
-    /// What a call asks with this demand, of requests with the payload `Q` and the user header `QU`
-    /// and responses with the payload `R` and the user header `RU`. `AllocError` where there was no
-    /// memory for the names of their types.
+    /// Returns what a call asks with this demand. Its requests have the payload `Q` and the user
+    /// header `QU`, and its responses have the payload `R` and the user header `RU`. `AllocError`
+    /// if there was no memory for the names of their types.
     pub(crate) fn prepare<Q: ZeroCopySend, QU: ZeroCopySend, R: ZeroCopySend, RU: ZeroCopySend>(
         self,
         demand: RequestResponseDemand,

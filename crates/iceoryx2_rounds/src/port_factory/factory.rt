@@ -11,18 +11,18 @@ use iceoryx2_attribute::attribute::AttributeSet;
 use iceoryx2_description::description::{MessagingPattern, ServiceHash, ServiceName};
 use std::marker::{Model, PhantomData};
 
-/// How the services of one pattern differ from those of others.
+/// The kind of one pattern's services: how they differ from those of others.
 pub trait Kind {
     /// The settings of its services.
     type StaticConfig;
 
-    /// Whether a description is of it.
+    /// True if a description is of this pattern.
     ghost is_of: { MessagingPattern → Bool };
 
-    /// The description's part that settings are.
+    /// The description's part with these settings.
     ghost of_settings: { Self.StaticConfig → MessagingPattern };
 
-    /// The settings of a description that is of it.
+    /// Returns the settings of a description that is of this pattern.
     fn settings(pattern: &MessagingPattern) -> &Self::StaticConfig
         requires { is_of pattern.now ≡ true }
         ensures { of_settings result.now ≡ pattern.now };
@@ -47,7 +47,7 @@ impl<S: Service, K: Kind> Model for PortFactory<S, K> {
 }
 
 impl<S: Service, K: Kind> PortFactory<S, K> {
-    /// The factory of a registration at a service of the pattern.
+    /// Returns the factory of a registration at a service of the pattern.
     pub fn new(registration: Registration) -> PortFactory<S, K>
         requires { K.is_of registration.description.pattern ≡ true }
         ensures { result ≡ registration }
@@ -59,56 +59,57 @@ impl<S: Service, K: Kind> PortFactory<S, K> {
         }
     }
 
-    /// The service's name.
+    /// Returns the service's name.
     pub fn name(&self) -> &ServiceName
         ensures { result.now ≡ self.now.description.name }
     {
         self.registration.description().name()
     }
 
-    /// The service's hash.
+    /// Returns the service's hash.
     pub fn service_hash(&self) -> &ServiceHash
         ensures { result.now ≡ self.now.description.hash }
     {
         self.registration.description().service_hash()
     }
 
-    /// The service's attributes.
+    /// Returns the service's attributes.
     pub fn attributes(&self) -> &AttributeSet
         ensures { result.now ≡ self.now.description.attributes }
     {
         self.registration.description().attributes()
     }
 
-    /// The id of the node that created the service, where its description has it.
+    /// Returns the id of the node that created the service, if its description tells it.
     pub fn creator(&self) -> Option<u64>
         ensures { result ≡ self.now.description.creator }
     {
         self.registration.description().creator()
     }
 
-    /// The service's settings.
+    /// Returns the service's settings.
     pub fn static_config(&self) -> &K::StaticConfig
         ensures { K.of_settings result.now ≡ self.now.description.pattern }
     {
         K::settings(self.registration.description().messaging_pattern())
     }
 
-    /// The service's number.
+    /// Returns the service's number.
     pub fn number(&self) -> u64
         ensures { result ≡ self.now.number }
     {
         self.registration.number()
     }
 
-    /// The node that opened the service.
+    /// Returns the node that opened the service.
     pub fn node(&self) -> u64
         ensures { result ≡ self.now.node }
     {
         self.registration.node()
     }
 
-    /// Closes it at its storage. `NotHere` gives it back unchanged, with nothing changed there.
+    /// Closes the factory at its storage. `NotHere` gives it back unchanged, and nothing changes at
+    /// the storage.
     pub fn close(self, storage: &mut S::Storage) -> Result<(), CloseError<PortFactory<S, K>>>
         ensures { Joins S.Storage.step storage.old (λ word. IsCloseWord self word result) storage.new }
     {
@@ -125,7 +126,7 @@ impl<S: Service, K: Kind> PortFactory<S, K> {
         }
     }
 
-    /// Its registration alone, which knows no pattern.
+    /// Returns its registration alone, which knows no pattern.
     pub fn into_registration(self) -> Registration
         ensures value { result ≡ self }
         ensures pattern { K.is_of self.description.pattern ≡ true }
@@ -138,7 +139,7 @@ impl<S: Service, K: Kind> PortFactory<S, K> {
         registration
     }
 
-    /// Spends it without any access: its ticket and its registration stay.
+    /// Spends the factory without any access: its ticket and its registration stay.
     pub fn abandon(self) {
         self.into_registration().abandon();
     }
