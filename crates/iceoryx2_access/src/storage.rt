@@ -1,4 +1,4 @@
-//! What a builder calls of a storage, and what it may answer.
+//! The accesses that a builder makes of a storage, and the answers that a storage may give.
 
 ghost use Rattle.std.specs.Prelude.{◌≡◌, ◌∷◌, ℕ, List};
 ghost use Rattle.iceoryx2_access.specs.Letter.{Letter, fetch_answer};
@@ -8,12 +8,12 @@ ghost use Rattle.sha1.specs.Sha1.{sha1};
 use iceoryx2_description::description::{ServiceHash, ServiceName, StaticConfig};
 use sha1::Sha1;
 
-/// Whether there is a service.
+/// The answers to whether there is a service.
 #[derive(Clone, Copy, Debug, PartialEq, Eq)]
 pub enum Existence {
     No,
     Yes,
-    /// Somebody is creating it.
+    /// Somebody is creating the service.
     BeingSetUp,
     /// The general fault.
     Fault,
@@ -31,12 +31,12 @@ pub enum FetchError {
     OutOfMemory,
 }
 
-/// How a node has its tag.
+/// The way in which a node got its tag.
 #[derive(Clone, Copy, Debug, PartialEq, Eq)]
 pub enum Tag {
-    /// This access made it.
+    /// This access made the tag.
     Made,
-    /// It was there.
+    /// The tag was there already.
     Found,
 }
 
@@ -59,9 +59,9 @@ pub enum RemoveError {
 /// Why a service isn't locked.
 #[derive(Clone, Copy, Debug, PartialEq, Eq)]
 pub enum LockError {
-    /// It has been created.
+    /// The service has been created.
     AlreadyExists,
-    /// Somebody is creating it.
+    /// Somebody is creating the service.
     Creation,
     InsufficientPermissions,
     /// The general fault.
@@ -72,7 +72,7 @@ pub enum LockError {
 /// Why a segment isn't made.
 #[derive(Clone, Copy, Debug, PartialEq, Eq)]
 pub enum MakeSegmentError {
-    /// One is there.
+    /// A segment is there already.
     AlreadyExists,
     InsufficientPermissions,
     /// The general fault.
@@ -92,25 +92,25 @@ pub enum PublishError {
 #[derive(Clone, Copy, Debug, PartialEq, Eq)]
 pub enum OpenSegmentError {
     DoesNotExist,
-    /// Its last participant has left.
+    /// The segment's last participant has left.
     Marked,
-    /// It has no room for another node.
+    /// The segment has no room for another node.
     Full,
-    /// The general fault, as where it has another number.
+    /// The general fault, as when the segment has another number.
     Failed,
     /// There is no ticket left.
     OutOfNumbers,
     OutOfMemory,
 }
 
-/// What a node's release leaves.
+/// The state of a service after a node's release.
 #[derive(Clone, Copy, Debug, PartialEq, Eq)]
 pub enum Release {
     /// The node still has other tickets for the service.
     StillCounted,
     /// Other nodes have the service.
     Left,
-    /// Nobody has the service: it is for this node to remove.
+    /// Nobody has the service: this node is to remove it.
     Last,
 }
 
@@ -121,23 +121,24 @@ pub enum ReleaseError {
     NoSuchTicket,
 }
 
-/// Where nodes leave what they agreed on.
+/// A storage, in which nodes leave the settings that they agreed on.
 ///
 /// Each access is one step of the implementation's own step relation, under the access's letter:
 /// its arguments with its answer. The builders use nothing else of a storage.
 pub trait Storage {
-    /// What an access with its answer makes of a storage.
+    /// The steps of a storage: its state before an access, the access with its answer, and its state
+    /// after the access.
     ghost step: { Self → Letter → Self → Type 0 };
 
-    /// Whether there is a service of this hash.
+    /// Returns whether there is a service of this hash.
     fn exists(&mut self, hash: &ServiceHash) -> Existence
         ensures { step self.old (letter.Exists hash.now result) self.new };
 
-    /// The service's number, and its description's bytes.
+    /// Returns the service's number and the bytes of its description.
     fn fetch(&mut self, node: u64, hash: &ServiceHash) -> Result<(u64, Vec<u8>), FetchError>
         ensures { step self.old (letter.Fetch node hash.now (fetch_answer result)) self.new };
 
-    /// Whether the node is registered at the service already.
+    /// Returns whether the node is registered at the service already.
     fn counts(&mut self, node: u64, hash: &ServiceHash) -> bool
         ensures { step self.old (letter.Counts node hash.now result) self.new };
 
@@ -145,11 +146,11 @@ pub trait Storage {
     fn make_tag(&mut self, node: u64, hash: &ServiceHash) -> Result<Tag, TagError>
         ensures { step self.old (letter.MakeTag node hash.now result) self.new };
 
-    /// Takes the node's tag away.
+    /// Removes the node's tag.
     fn remove_tag(&mut self, node: u64, hash: &ServiceHash) -> Result<(), RemoveError>
         ensures { step self.old (letter.RemoveTag node hash.now result) self.new };
 
-    /// Locks the hash for a new service, and gives that service's number.
+    /// Locks the hash for a new service, and returns that service's number.
     fn lock(&mut self, node: u64, hash: &ServiceHash) -> Result<u64, LockError>
         ensures { step self.old (letter.Lock node hash.now result) self.new };
 
@@ -163,15 +164,15 @@ pub trait Storage {
     ) -> Result<(), MakeSegmentError>
         ensures { step self.old (letter.MakeSegment node hash.now number max_nodes result) self.new };
 
-    /// Takes the segment away.
+    /// Removes the segment.
     fn remove_segment(&mut self, node: u64, hash: &ServiceHash) -> Result<(), RemoveError>
         ensures { step self.old (letter.RemoveSegment node hash.now result) self.new };
 
-    /// Takes the description, or the lock that stands in its place, away.
+    /// Removes the description, or the lock that is in its place.
     fn remove_description(&mut self, node: u64, hash: &ServiceHash) -> Result<(), RemoveError>
         ensures { step self.old (letter.RemoveDescription node hash.now result) self.new };
 
-    /// Puts the description in the lock's place, and gives a ticket for the node.
+    /// Puts the description in the lock's place, and returns a ticket for the node.
     fn publish(
         &mut self,
         node: u64,
@@ -181,7 +182,7 @@ pub trait Storage {
     ) -> Result<u64, PublishError>
         ensures { step self.old (letter.Publish node hash.now number description.now result) self.new };
 
-    /// Registers the node in the segment of this number, and gives a ticket.
+    /// Registers the node in the segment of this number, and returns a ticket.
     fn open_segment(
         &mut self,
         node: u64,
@@ -201,20 +202,20 @@ pub trait Storage {
         ensures { step self.old (letter.Release ticket node hash.now number result) self.new };
 }
 
-/// What makes a service's hash of its pattern's prefix and its name.
+/// A function that makes a service's hash of its pattern's prefix and its name.
 pub trait ServiceNameHasher {
     ghost use Rattle.iceoryx2_description.specs.declared.description.ServiceHash.{ServiceHash};
 
     /// The hash of a prefix and a name's bytes.
     ghost hash_of: { ℕ → List ℕ → ServiceHash };
 
-    /// The hash of a service. The prefix is `e` for events, `p` for publish-subscribe, `r` for
+    /// Returns the hash of a service. The prefix is `e` for events, `p` for publish-subscribe, `r` for
     /// request-response and `b` for a blackboard.
     fn hash(prefix: u8, name: &ServiceName) -> ServiceHash
         ensures { result ≡ hash_of prefix name.now };
 }
 
-/// SHA-1 of the prefix and the name's bytes.
+/// Makes hashes by SHA-1 of the prefix and the name's bytes.
 #[derive(Clone, Copy, Debug, PartialEq, Eq)]
 pub struct Sha1Hasher;
 
@@ -231,7 +232,7 @@ impl ServiceNameHasher for Sha1Hasher {
     }
 }
 
-/// A storage, and what makes the hashes under which services stand in it.
+/// A storage, and the function that makes the hashes of the services in it.
 pub trait Service {
     type Storage: Storage;
 

@@ -1,4 +1,4 @@
-//! Pairs of a key and a value that a service has, and what a node requires of them.
+//! The pairs of a key and a value that a service has, and the requirements of a node on them.
 
 ghost use Rattle.std.specs.Prelude.{◌≡◌, ◌↔◌, IsTrue};
 ghost use Rattle.iceoryx2_attribute.specs.Additions.{HasKeyLength, HasValueLength};
@@ -25,13 +25,14 @@ pub const MAX_KEY_LENGTH: usize = 64;
 /// The length of the longest value, in bytes. The shortest has none.
 pub const MAX_VALUE_LENGTH: usize = 256;
 
-/// How many pairs a set has at most.
+/// The greatest number of pairs in a set.
 pub const MAX_ATTRIBUTES: usize = 64;
 
-/// How many keys may be required.
+/// The greatest number of required keys.
 pub const MAX_REQUIRED_KEYS: usize = 64;
 
-/// The limits as numbers, since a wrong constant would go with the definitions that cite it.
+/// States the limits as numbers, because a wrong constant would also change the definitions that cite
+/// it.
 pub fn limits_of_attributes()
     ensures min_key { MIN_KEY_LENGTH ≡ 1 }
     ensures max_key { MAX_KEY_LENGTH ≡ 64 }
@@ -40,16 +41,16 @@ pub fn limits_of_attributes()
     ensures required_keys { MAX_REQUIRED_KEYS ≡ 64 }
 {}
 
-/// Why a pair or a key isn't added. They are tested in this order.
+/// Why a pair or a key isn't added. The errors are tested in this order.
 #[derive(Clone, Copy, Debug, PartialEq, Eq, Hash)]
 pub enum AttributeError {
     /// The key has no byte, or more than 64.
     KeyLength,
     /// The value has more than 256 bytes.
     ValueLength,
-    /// It isn't there yet, and 64 are.
+    /// The pair or key isn't there yet, and 64 others are.
     TooMany,
-    /// There was no memory for it.
+    /// There was no memory for the pair or key.
     OutOfMemory,
 }
 
@@ -76,20 +77,20 @@ impl Error for AttributeError {}
 /// Why a pair isn't put after the others.
 #[derive(Clone, Copy, Debug, PartialEq, Eq)]
 pub enum PushError {
-    /// With it the pairs would not ascend, or it or their number would be past its limit.
+    /// The pairs would then not ascend, or a length or the number of pairs would be past its limit.
     Refused,
-    /// There was no memory for it.
+    /// There was no memory for the pair.
     OutOfMemory,
 }
 
-/// Whether a text has as many bytes as a key may have.
+/// Returns whether a text has as many bytes as a key may have.
 fn has_key_length(key: &str) -> bool
     ensures { IsTrue result ↔ HasKeyLength key.now }
 {
     MIN_KEY_LENGTH <= key.len() && key.len() <= MAX_KEY_LENGTH
 }
 
-/// Whether a text has as many bytes as a value may have.
+/// Returns whether a text has as many bytes as a value may have.
 fn has_value_length(value: &str) -> bool
     ensures { IsTrue result ↔ HasValueLength value.now }
 {

@@ -1,4 +1,4 @@
-//! The bytes by which nodes tell each other of a service.
+//! The bytes that describe a service from one node to another.
 
 ghost use Rattle.std.specs.Prelude.{◌≡◌, ◌<◌, ◌++◌, ℕ, List, [], All, IfOk, MatchResult};
 ghost use Rattle.iceoryx2_description.specs.Description.{Description, IsDescription};
@@ -19,7 +19,7 @@ pub const MAGIC: [u8; 4] = *b"IOX2";
 /// The version of the form of a description without a creator, the byte after the magic.
 pub const VERSION_WITHOUT_CREATOR: u8 = 1;
 
-/// The version of the form of a description with its creator. The creator's id stands behind it.
+/// The version of the form of a description with its creator. The creator's id is after the version.
 pub const VERSION_WITH_CREATOR: u8 = 2;
 
 /// The byte of a service of events.
@@ -31,15 +31,15 @@ pub const PUBLISH_SUBSCRIBE_BYTE: u8 = 2;
 /// The byte of a service of request-response.
 pub const REQUEST_RESPONSE_BYTE: u8 = 3;
 
-/// The bytes of the patterns as numbers, since a wrong constant would go with the form that cites it.
-/// The form spells the magic and the versions itself.
+/// States the bytes of the patterns as numbers, because a wrong constant would also change the form
+/// that cites it. The form spells the magic and the versions itself.
 pub fn pattern_bytes()
     ensures events { EVENT_BYTE ≡ 1 }
     ensures publish_subscribe { PUBLISH_SUBSCRIBE_BYTE ≡ 2 }
     ensures request_response { REQUEST_RESPONSE_BYTE ≡ 3 }
 {}
 
-/// The byte form of the description. Its memory is asked for once.
+/// Returns the byte form of the description. Its memory is asked for once.
 pub fn encode(alloc: Global, description: &StaticConfig) -> Result<Vec<u8>, AllocError>
     ensures { IfOk result (λ bytes. IsForm description.now bytes.items) }
 {
@@ -48,8 +48,8 @@ pub fn encode(alloc: Global, description: &StaticConfig) -> Result<Vec<u8>, Allo
     Ok(out)
 }
 
-/// The description whose byte form the bytes are: `Malformed` where there is none, and
-/// `OutOfMemory` where the name, an attribute or a type found no memory.
+/// Returns the description whose byte form the bytes are. `Malformed` if there is none, and
+/// `OutOfMemory` if there was no memory for the name, an attribute or a type.
 pub fn decode(alloc: Global, bytes: &[u8]) -> Result<StaticConfig, DecodeError>
     // What is found has the bytes as its form.
     ensures found { IfOk result (λ d. IsForm d bytes.now) }
@@ -61,7 +61,7 @@ pub fn decode(alloc: Global, bytes: &[u8]) -> Result<StaticConfig, DecodeError>
     reading::all(alloc, bytes)
 }
 
-/// The laws of the byte form.
+/// States the laws of the byte form.
 pub fn laws_of_forms()
     // Each description has a byte form,
     ensures exists { (d : Description) → IsDescription d → (bytes : List ℕ) × IsForm d bytes }

@@ -9,21 +9,21 @@ use crate::time::Duration;
 /// The settings that an event builder starts from.
 #[derive(Clone, Copy, Debug, PartialEq, Eq)]
 pub struct Event {
-    /// For how many notifiers a service is.
+    /// The number of notifiers that a service has room for.
     pub max_notifiers: u64,
-    /// For how many listeners a service is.
+    /// The number of listeners that a service has room for.
     pub max_listeners: u64,
     /// The greatest number that an event may have.
     pub event_id_max_value: u64,
-    /// For how many nodes a service is.
+    /// The number of nodes that a service has room for.
     pub max_nodes: u64,
-    /// What is sent when a notifier is created, where something is.
+    /// The event that is sent when a notifier is created, if there is one.
     pub notifier_created_event: Option<EventId>,
-    /// What is sent when a notifier goes, where something is.
+    /// The event that is sent when a notifier goes, if there is one.
     pub notifier_dropped_event: Option<EventId>,
-    /// What is sent for a notifier whose process died, where something is.
+    /// The event that is sent for a notifier whose process died, if there is one.
     pub notifier_dead_event: Option<EventId>,
-    /// Within what time a notifier has to notify again, where it has to.
+    /// The time within which a notifier must notify again, if there is one.
     pub deadline: Option<Duration>,
 }
 
@@ -32,7 +32,7 @@ impl Default for Event {
 
     ghost is_default = { λ settings. settings ≡ default_event };
 
-    /// 16 notifiers, 16 listeners, events up to 255, 36 nodes, and nothing else.
+    /// Returns 16 notifiers, 16 listeners, events up to 255, 36 nodes, and nothing else.
     fn default() -> Event {
         Event {
             max_notifiers: 16,
@@ -50,19 +50,19 @@ impl Default for Event {
 /// The settings that a builder of publish-subscribe starts from.
 #[derive(Clone, Copy, Debug, PartialEq, Eq)]
 pub struct PublishSubscribe {
-    /// For how many publishers a service is.
+    /// The number of publishers that a service has room for.
     pub max_publishers: u64,
-    /// For how many subscribers a service is.
+    /// The number of subscribers that a service has room for.
     pub max_subscribers: u64,
-    /// How many samples a subscriber's buffer has room for.
+    /// The number of samples that a subscriber's buffer has room for.
     pub subscriber_max_buffer_size: u64,
-    /// How many of the last samples a subscriber that comes later gets.
+    /// The number of the last samples that a later subscriber gets.
     pub history_size: u64,
-    /// How many samples a subscriber may borrow at one time.
+    /// The number of samples that a subscriber may borrow at one time.
     pub subscriber_max_borrowed_samples: u64,
-    /// Whether a full buffer's oldest sample gives way to a new one.
+    /// True if a full buffer's oldest sample gives way to a new one.
     pub enable_safe_overflow: bool,
-    /// For how many nodes a service is.
+    /// The number of nodes that a service has room for.
     pub max_nodes: u64,
 }
 
@@ -71,8 +71,8 @@ impl Default for PublishSubscribe {
 
     ghost is_default = { λ settings. settings ≡ default_publish_subscribe };
 
-    /// 2 publishers, 8 subscribers, a buffer for 2 samples, no history, 2 borrowed samples, safe
-    /// overflow, 20 nodes.
+    /// Returns 2 publishers, 8 subscribers, a buffer for 2 samples, no history, 2 borrowed samples,
+    /// safe overflow, and 20 nodes.
     fn default() -> PublishSubscribe {
         PublishSubscribe {
             max_publishers: 2,
@@ -89,25 +89,25 @@ impl Default for PublishSubscribe {
 /// The settings that a builder of request-response starts from.
 #[derive(Clone, Copy, Debug, PartialEq, Eq)]
 pub struct RequestResponse {
-    /// Whether a full buffer's oldest request gives way to a new one.
+    /// True if a full buffer's oldest request gives way to a new one.
     pub enable_safe_overflow_for_requests: bool,
-    /// Whether a full buffer's oldest response gives way to a new one.
+    /// True if a full buffer's oldest response gives way to a new one.
     pub enable_safe_overflow_for_responses: bool,
-    /// Whether a request may be sent whose responses nobody waits for.
+    /// True if a request may be sent whose responses nobody waits for.
     pub enable_fire_and_forget_requests: bool,
-    /// How many requests a client may have under way at one time.
+    /// The number of requests that a client may have under way at one time.
     pub max_active_requests_per_client: u64,
-    /// How many requests a client may have on loan at one time.
+    /// The number of requests that a client may have on loan at one time.
     pub max_loaned_requests: u64,
-    /// How many responses may be borrowed at one time from one pending response.
+    /// The number of responses that may be borrowed at one time from one pending response.
     pub max_borrowed_responses_per_pending_response: u64,
-    /// How many responses the buffer of one request has room for.
+    /// The number of responses that the buffer of one request has room for.
     pub max_response_buffer_size: u64,
-    /// For how many servers a service is.
+    /// The number of servers that a service has room for.
     pub max_servers: u64,
-    /// For how many clients a service is.
+    /// The number of clients that a service has room for.
     pub max_clients: u64,
-    /// For how many nodes a service is.
+    /// The number of nodes that a service has room for.
     pub max_nodes: u64,
 }
 
@@ -116,8 +116,8 @@ impl Default for RequestResponse {
 
     ghost is_default = { λ settings. settings ≡ default_request_response };
 
-    /// Safe overflow of requests and of responses, fire and forget, 4 requests under way and 2 on
-    /// loan, 2 borrowed responses, a buffer for 2 responses, 2 servers, 8 clients, 20 nodes.
+    /// Returns safe overflow of requests and of responses, fire and forget, 4 requests under way and 2
+    /// on loan, 2 borrowed responses, a buffer for 2 responses, 2 servers, 8 clients, and 20 nodes.
     fn default() -> RequestResponse {
         RequestResponse {
             enable_safe_overflow_for_requests: true,
@@ -137,11 +137,11 @@ impl Default for RequestResponse {
 /// The settings that the builders of a node start from.
 #[derive(Clone, Copy, Debug, PartialEq, Eq)]
 pub struct Config {
-    /// What event builders start from.
+    /// The settings that event builders start from.
     pub event: Event,
-    /// What builders of publish-subscribe start from.
+    /// The settings that builders of publish-subscribe start from.
     pub publish_subscribe: PublishSubscribe,
-    /// What builders of request-response start from.
+    /// The settings that builders of request-response start from.
     pub request_response: RequestResponse,
 }
 
@@ -150,7 +150,7 @@ impl Default for Config {
 
     ghost is_default = { λ config. config ≡ default_config };
 
-    /// The defaults of each builder.
+    /// Returns the defaults of each builder.
     fn default() -> Config {
         Config {
             event: Event::default(),

@@ -1,4 +1,4 @@
-//! What nodes that share a service agree on.
+//! The description that nodes that share a service agree on.
 
 ghost use Rattle.std.specs.Prelude.{◌≡◌, ◌<◌, ◌≤◌, ◌↔◌, ◌⊎◌, Err, IfOk, OnOk, IsTrue, All, length, string_bytes};
 ghost use Rattle.std.specs.Prelude.{Some, None};
@@ -22,7 +22,8 @@ pub const MIN_NAME_LENGTH: usize = 1;
 /// The length of the longest name, in bytes.
 pub const MAX_NAME_LENGTH: usize = 255;
 
-/// The limits as numbers, since a wrong constant would go with the definitions that cite it.
+/// States the limits as numbers, because a wrong constant would also change the definitions that cite
+/// it.
 pub fn limits_of_names()
     ensures hash { HASH_LENGTH ≡ 20 }
     ensures min_name { MIN_NAME_LENGTH ≡ 1 }
@@ -53,12 +54,12 @@ impl Model for ServiceName {
     ghost invariant = { λ name. IsName (string_bytes name.text) };
 }
 
-/// Why a text is no service's name.
+/// Why a text is not a service's name.
 #[derive(Clone, Copy, Debug, PartialEq, Eq)]
 pub enum ServiceNameError {
-    /// It is empty, or longer than 255 bytes.
+    /// The text is empty, or longer than 255 bytes.
     Length,
-    /// There was no memory for a copy.
+    /// There was no memory for a copy of the text.
     OutOfMemory,
 }
 
@@ -79,8 +80,8 @@ impl fmt::Display for ServiceNameError {
 impl Error for ServiceNameError {}
 
 impl ServiceName {
-    /// A copy of the text as a name. `Length` where it has no byte or more than 255, which is
-    /// tested first, and `OutOfMemory` where the copy found no memory.
+    /// Returns a copy of the text as a name. The errors, tested in this order: `Length` if the text
+    /// does not have 1 to 255 bytes, and `OutOfMemory` if there was no memory for the copy.
     #[tactic(auto, using(crate::proofs::Utf8::is_text))]
     pub fn new(alloc: Global, text: &str) -> Result<ServiceName, ServiceNameError>
         ensures name { IfOk result (λ name. name ≡ text.now) }
@@ -96,7 +97,7 @@ impl ServiceName {
         }
     }
 
-    /// A name of a text that has its length already.
+    /// Returns the text as a name. The text's length is already within the limits.
     pub fn from_text(text: String) -> ServiceName
         requires { IsName (string_bytes text) }
         ensures { result ≡ string_bytes text }
@@ -104,12 +105,12 @@ impl ServiceName {
         ServiceName { text }
     }
 
-    /// What its memory comes from.
+    /// Returns the allocator that the name's memory comes from.
     pub fn allocator(&self) -> Global {
         *self.text.allocator()
     }
 
-    /// The name as a text.
+    /// Returns the name as a text.
     pub fn as_str(&self) -> &str
         ensures value { result.now ≡ self.now }
         ensures text { IsName self.now }
@@ -166,7 +167,7 @@ impl Clone for ServiceName {
 pub struct ServiceHash(pub [u8; HASH_LENGTH]);
 
 impl ServiceHash {
-    /// The hash in 40 hexadecimal digits, in lower case.
+    /// Returns the hash in 40 hexadecimal digits, in lower case.
     pub fn to_text(&self, alloc: Global) -> Result<String, AllocError>
         ensures { IfOk result (λ text. string_bytes text ≡ encode_lower self.now.0) }
     {
@@ -208,7 +209,7 @@ impl Drop for MessagingPattern {
 impl MessagingPattern {
     ghost use Rattle.iceoryx2_description.specs.Description.{IsSamePattern};
 
-    /// Whether both are of the same pattern, whatever their settings.
+    /// Returns whether both are of the same pattern, whatever their settings.
     pub fn is_same_pattern(&self, other: &MessagingPattern) -> bool
         ensures { IsTrue result ↔ IsSamePattern self.now other.now }
     {
@@ -226,14 +227,14 @@ impl MessagingPattern {
     }
 }
 
-/// Each of them is a byte.
+/// Each of these numbers is a byte.
 fn are_bytes(bytes: &[u8])
     ensures { All (λ b. b < 256) bytes.now }
 {
     let _length = bytes.len();
 }
 
-/// Its numbers are within the limits of their types.
+/// The numbers are within the limits of their types.
 fn pattern_fits(pattern: &MessagingPattern)
     ensures { IsPattern pattern.now }
 {
@@ -244,8 +245,8 @@ fn pattern_fits(pattern: &MessagingPattern)
     }
 }
 
-/// What nodes that share a service agree on: its hash, its name, its attributes, and its pattern
-/// with the settings. It may also tell which node created the service.
+/// The description that nodes that share a service agree on: its hash, its name, its attributes, and
+/// its pattern with the settings. It may also tell which node created the service.
 #[derive(Debug, PartialEq, Eq)]
 pub struct StaticConfig {
     hash: ServiceHash,
@@ -303,7 +304,7 @@ impl Model for StaticConfig {
 impl StaticConfig {
     ghost use Rattle.iceoryx2_description.specs.Description.{IsDescription, max_nodes_of};
 
-    /// The description of these parts, without a creator.
+    /// Returns the description of these parts, without a creator.
     pub fn new(
         hash: ServiceHash,
         name: ServiceName,
@@ -332,7 +333,7 @@ impl StaticConfig {
         }
     }
 
-    /// The same description with this node as its creator, in place of any that it had before.
+    /// Returns the same description with this node as its creator, instead of any that it had before.
     pub fn with_creator(self, creator: u64) -> StaticConfig
         ensures value { result ≡ record self { creator = Some creator } }
         ensures limits { IsDescription result }
@@ -354,7 +355,7 @@ impl StaticConfig {
         }
     }
 
-    /// The hash by which the service is found.
+    /// Returns the hash by which the service is found.
     pub fn service_hash(&self) -> &ServiceHash
         ensures value { result.now ≡ self.now.hash }
         ensures limits { IsDescription self.now }
@@ -362,7 +363,7 @@ impl StaticConfig {
         &self.hash
     }
 
-    /// The service's name.
+    /// Returns the service's name.
     pub fn name(&self) -> &ServiceName
         ensures value { result.now ≡ self.now.name }
         ensures limits { IsDescription self.now }
@@ -370,7 +371,7 @@ impl StaticConfig {
         &self.name
     }
 
-    /// The service's attributes.
+    /// Returns the service's attributes.
     pub fn attributes(&self) -> &AttributeSet
         ensures value { result.now ≡ self.now.attributes }
         ensures limits { IsDescription self.now }
@@ -378,7 +379,7 @@ impl StaticConfig {
         &self.attributes
     }
 
-    /// The service's pattern with its settings.
+    /// Returns the service's pattern with its settings.
     pub fn messaging_pattern(&self) -> &MessagingPattern
         ensures value { result.now ≡ self.now.pattern }
         ensures limits { IsDescription self.now }
@@ -386,7 +387,7 @@ impl StaticConfig {
         &self.pattern
     }
 
-    /// The id of the node that created the service, where the description has it.
+    /// Returns the id of the node that created the service, if the description lists it.
     pub fn creator(&self) -> Option<u64>
         ensures value { result ≡ self.now.creator }
         ensures limits { IsDescription self.now }
@@ -394,7 +395,7 @@ impl StaticConfig {
         self.creator
     }
 
-    /// For how many nodes the service is.
+    /// Returns the number of nodes that the service has room for.
     pub fn max_nodes(&self) -> u64
         ensures value { result ≡ max_nodes_of self.now.pattern }
         ensures limits { IsDescription self.now }

@@ -1,4 +1,4 @@
-//! What nodes agree on for a service of events.
+//! The settings that nodes agree on for a service of events.
 
 ghost use Rattle.std.specs.Prelude.{◌≡◌, ◌<◌, ◌^◌, IfSome};
 ghost use Rattle.iceoryx2_description.specs.Description.{IsDeadline, IsEvent};
@@ -23,14 +23,14 @@ impl Model for EventId {
 }
 
 impl EventId {
-    /// The event of this number.
+    /// Returns the event of this number.
     pub fn new(value: u64) -> EventId
         ensures { result ≡ value }
     {
         EventId { value }
     }
 
-    /// The event's number.
+    /// Returns the event's number.
     pub fn as_value(&self) -> u64
         ensures value { result ≡ self.now }
         ensures below { result < 2 ^ 64 }
@@ -39,38 +39,38 @@ impl EventId {
     }
 }
 
-/// Within what time a notifier has to notify again, and when the service was created.
+/// The time within which a notifier must notify again, and the time when the service was created.
 #[derive(Clone, Copy, Debug, PartialEq, Eq)]
 pub struct Deadline {
-    /// Within what time a notifier has to notify again.
+    /// The time within which a notifier must notify again.
     pub value: Duration,
-    /// When the service was created.
+    /// The time when the service was created.
     pub creation_time: Time,
 }
 
 /// The settings of a service of events, in the order in which they are verified and written.
 #[derive(Clone, Copy, Debug, PartialEq, Eq)]
 pub struct StaticConfig {
-    /// For how many notifiers the service is.
+    /// The number of notifiers that the service has room for.
     pub max_notifiers: u64,
-    /// For how many listeners the service is.
+    /// The number of listeners that the service has room for.
     pub max_listeners: u64,
     /// The greatest number that an event may have.
     pub event_id_max_value: u64,
-    /// For how many nodes the service is.
+    /// The number of nodes that the service has room for.
     pub max_nodes: u64,
-    /// What is sent when a notifier is created, where something is.
+    /// The event that is sent when a notifier is created, if there is one.
     pub notifier_created_event: Option<EventId>,
-    /// What is sent when a notifier goes, where something is.
+    /// The event that is sent when a notifier goes, if there is one.
     pub notifier_dropped_event: Option<EventId>,
-    /// What is sent for a notifier whose process died, where something is.
+    /// The event that is sent for a notifier whose process died, if there is one.
     pub notifier_dead_event: Option<EventId>,
-    /// Within what time a notifier has to notify again, where it has to.
+    /// The time within which a notifier must notify again, if there is one.
     pub deadline: Option<Deadline>,
 }
 
 impl StaticConfig {
-    /// Its numbers are within the limits of their types.
+    /// The numbers are within the limits of their types.
     pub(crate) fn fits(&self)
         ensures { IsEvent self.now }
     {

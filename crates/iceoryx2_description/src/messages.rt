@@ -1,10 +1,10 @@
-//! What a description tells of messages.
+//! The parts of a description that are about messages.
 
 ghost use Rattle.iceoryx2_description.specs.Messages.{IsMeasured, IsMeasuredMessage};
 
 use iceoryx2_types::types::{MessageTypeDetails, TypeDetail};
 
-/// Its numbers are within the limits of their types.
+/// The numbers are within the limits of their types.
 pub(crate) fn message_fits(message: &MessageTypeDetails)
     ensures { IsMeasuredMessage message.now }
 {

@@ -1,4 +1,4 @@
-//! What nodes agree on for a service of publish-subscribe.
+//! The settings that nodes agree on for a service of publish-subscribe.
 
 ghost use Rattle.iceoryx2_description.specs.Description.{IsPublishSubscribe};
 
@@ -10,26 +10,26 @@ use std::alloc::AllocError;
 /// written, and the types of its messages.
 #[derive(Debug, Drop, PartialEq, Eq)]
 pub struct StaticConfig {
-    /// For how many publishers the service is.
+    /// The number of publishers that the service has room for.
     pub max_publishers: u64,
-    /// For how many subscribers the service is.
+    /// The number of subscribers that the service has room for.
     pub max_subscribers: u64,
-    /// How many samples a subscriber's buffer has room for.
+    /// The number of samples that a subscriber's buffer has room for.
     pub subscriber_max_buffer_size: u64,
-    /// How many of the last samples a subscriber that comes later gets.
+    /// The number of the last samples that a later subscriber gets.
     pub history_size: u64,
-    /// How many samples a subscriber may borrow at one time.
+    /// The number of samples that a subscriber may borrow at one time.
     pub subscriber_max_borrowed_samples: u64,
-    /// Whether a full buffer's oldest sample gives way to a new one.
+    /// True if a full buffer's oldest sample gives way to a new one.
     pub enable_safe_overflow: bool,
-    /// For how many nodes the service is.
+    /// The number of nodes that the service has room for.
     pub max_nodes: u64,
     /// The types of a message.
     pub message_type_details: MessageTypeDetails,
 }
 
 impl StaticConfig {
-    /// Its numbers are within the limits of their types.
+    /// The numbers are within the limits of their types.
     pub(crate) fn fits(&self)
         ensures { IsPublishSubscribe self.now }
     {
@@ -48,7 +48,7 @@ impl Clone for StaticConfig {
 
     ghost is_clone = { λ settings copy. copy ≡ settings };
 
-    /// `AllocError` where there was no memory for the types' names.
+    /// `AllocError` if there was no memory for the types' names.
     fn clone(&self) -> Result<StaticConfig, AllocError> {
         Ok(StaticConfig {
             max_publishers: self.max_publishers,

@@ -1,4 +1,4 @@
-//! What nodes agree on for a service of request-response.
+//! The settings that nodes agree on for a service of request-response.
 
 ghost use Rattle.iceoryx2_description.specs.Description.{IsRequestResponse};
 
@@ -10,25 +10,25 @@ use std::alloc::AllocError;
 /// written, and the types of its requests and responses.
 #[derive(Debug, Drop, PartialEq, Eq)]
 pub struct StaticConfig {
-    /// Whether a full buffer's oldest request gives way to a new one.
+    /// True if a full buffer's oldest request gives way to a new one.
     pub enable_safe_overflow_for_requests: bool,
-    /// Whether a full buffer's oldest response gives way to a new one.
+    /// True if a full buffer's oldest response gives way to a new one.
     pub enable_safe_overflow_for_responses: bool,
-    /// Whether a request may be sent whose responses nobody waits for.
+    /// True if a request may be sent whose responses nobody waits for.
     pub enable_fire_and_forget_requests: bool,
-    /// How many requests a client may have under way at one time.
+    /// The number of requests that a client may have under way at one time.
     pub max_active_requests_per_client: u64,
-    /// How many requests a client may have on loan at one time.
+    /// The number of requests that a client may have on loan at one time.
     pub max_loaned_requests: u64,
-    /// How many responses may be borrowed at one time from one pending response.
+    /// The number of responses that may be borrowed at one time from one pending response.
     pub max_borrowed_responses_per_pending_response: u64,
-    /// How many responses the buffer of one request has room for.
+    /// The number of responses that the buffer of one request has room for.
     pub max_response_buffer_size: u64,
-    /// For how many servers the service is.
+    /// The number of servers that the service has room for.
     pub max_servers: u64,
-    /// For how many clients the service is.
+    /// The number of clients that the service has room for.
     pub max_clients: u64,
-    /// For how many nodes the service is.
+    /// The number of nodes that the service has room for.
     pub max_nodes: u64,
     /// The types of a request.
     pub request_message_type_details: MessageTypeDetails,
@@ -37,7 +37,7 @@ pub struct StaticConfig {
 }
 
 impl StaticConfig {
-    /// Its numbers are within the limits of their types.
+    /// The numbers are within the limits of their types.
     pub(crate) fn fits(&self)
         ensures { IsRequestResponse self.now }
     {
@@ -58,7 +58,7 @@ impl Clone for StaticConfig {
 
     ghost is_clone = { λ settings copy. copy ≡ settings };
 
-    /// `AllocError` where there was no memory for the types' names.
+    /// `AllocError` if there was no memory for the types' names.
     fn clone(&self) -> Result<StaticConfig, AllocError> {
         Ok(StaticConfig {
             enable_safe_overflow_for_requests: self.enable_safe_overflow_for_requests,

@@ -1,14 +1,14 @@
-//! Lengths of time and points of it.
+//! Lengths of time and points in time.
 
 ghost use Rattle.std.specs.Prelude.{◌≡◌, ◌<◌, ◌≤◌, ◌^◌, ◌↔◌, IfSome, IsTrue, MatchOption};
 ghost use Rattle.iceoryx2_description.specs.Span.{Span, zero_span};
 
 use std::marker::Model;
 
-/// How many nanoseconds a second has.
+/// The number of nanoseconds in a second.
 pub const NANOSECONDS_PER_SECOND: u32 = 1_000_000_000;
 
-/// A second has 1,000,000,000 nanoseconds.
+/// States that a second has 1,000,000,000 nanoseconds.
 pub fn second_has_a_billion_nanoseconds()
     ensures { NANOSECONDS_PER_SECOND ≡ 1000000000 }
 {}
@@ -35,7 +35,7 @@ impl Model for Duration {
 }
 
 impl Duration {
-    /// A length of time, or `None` from 1,000,000,000 nanoseconds on.
+    /// Returns a length of time, or `None` if `nanoseconds` is 1,000,000,000 or more.
     pub fn new(seconds: u64, nanoseconds: u32) -> Option<Duration>
         ensures value { IfSome result (λ d. (d.seconds ≡ seconds) × (d.nanoseconds ≡ nanoseconds)) }
         ensures limit { MatchOption result (NANOSECONDS_PER_SECOND ≤ nanoseconds)
@@ -51,7 +51,7 @@ impl Duration {
         }
     }
 
-    /// The whole seconds.
+    /// Returns the whole seconds.
     pub fn seconds(&self) -> u64
         ensures value { result ≡ self.now.seconds }
         ensures below { result < 2 ^ 64 }
@@ -59,7 +59,7 @@ impl Duration {
         self.seconds
     }
 
-    /// The nanoseconds beside the seconds, below 1,000,000,000.
+    /// Returns the nanoseconds besides the seconds, below 1,000,000,000.
     pub fn nanoseconds(&self) -> u32
         ensures value { result ≡ self.now.nanoseconds }
         ensures below { result < NANOSECONDS_PER_SECOND }
@@ -68,7 +68,7 @@ impl Duration {
     }
 }
 
-/// A point of time: seconds, and fewer than 1,000,000,000 nanoseconds.
+/// A point in time: seconds, and fewer than 1,000,000,000 nanoseconds.
 #[derive(Clone, Copy, Debug, PartialEq, Eq, PartialOrd, Ord)]
 pub struct Time {
     seconds: u64,
@@ -90,7 +90,7 @@ impl Model for Time {
 }
 
 impl Time {
-    /// A point of time, or `None` from 1,000,000,000 nanoseconds on.
+    /// Returns a point in time, or `None` if `nanoseconds` is 1,000,000,000 or more.
     pub fn new(seconds: u64, nanoseconds: u32) -> Option<Time>
         ensures value { IfSome result (λ t. (t.seconds ≡ seconds) × (t.nanoseconds ≡ nanoseconds)) }
         ensures limit { MatchOption result (NANOSECONDS_PER_SECOND ≤ nanoseconds)
@@ -103,7 +103,7 @@ impl Time {
         })
     }
 
-    /// The whole seconds.
+    /// Returns the whole seconds.
     pub fn seconds(&self) -> u64
         ensures value { result ≡ self.now.seconds }
         ensures below { result < 2 ^ 64 }
@@ -111,7 +111,7 @@ impl Time {
         self.seconds
     }
 
-    /// The nanoseconds beside the seconds, below 1,000,000,000.
+    /// Returns the nanoseconds besides the seconds, below 1,000,000,000.
     pub fn nanoseconds(&self) -> u32
         ensures value { result ≡ self.now.nanoseconds }
         ensures below { result < NANOSECONDS_PER_SECOND }
@@ -123,7 +123,7 @@ impl Time {
 impl Default for Time {
     ghost is_default = { λ time. time ≡ zero_span };
 
-    /// The time zero.
+    /// Returns the time zero.
     fn default() -> Time {
         Time {
             seconds: 0,
@@ -132,8 +132,8 @@ impl Default for Time {
     }
 }
 
-/// Two lengths or two points of time are equal by `==` exactly if they are the same in seconds and
-/// nanoseconds.
+/// States that two lengths or two points in time are equal by `==` exactly if they are the same in
+/// seconds and nanoseconds.
 pub fn equality_of_times()
     ensures length { (a b : Span) → IsTrue (⟦<Duration as PartialEq>⟧.eq a b) ↔ (a ≡ b) }
     ensures point { (a b : Span) → IsTrue (⟦<Time as PartialEq>⟧.eq a b) ↔ (a ≡ b) }

@@ -1,4 +1,4 @@
-//! Why calls are refused, and what their texts are.
+//! Why calls are refused, and the texts of the errors.
 
 ghost use Rattle.std.specs.Prelude.{◌≡◌, ◌++◌, codes, Some};
 ghost use Rattle.iceoryx2_errors.specs.Equality.{IsEquality};
@@ -8,7 +8,8 @@ ghost use Rattle.iceoryx2_errors.specs.declared.refusal.Refusal.{Refusal};
 use std::error::Error;
 use std::fmt;
 
-/// What a call whose look finds a state says, and what it says of a service of another pattern.
+/// The error of a call whose look finds a state. The last argument is the error for a service of
+/// another pattern.
 macro_rules! error_of {
     ($state:expr, $error:ident, $of_other_pattern:ident) => {
         match $state {
@@ -33,13 +34,14 @@ pub use request_response::{
     RequestResponseCreateError, RequestResponseOpenError, RequestResponseOpenOrCreateError,
 };
 
-/// An error is known by its text: of the 163 values of the nine enums, no two have the same one.
+/// States that an error is known by its text: no two of the 163 values of the nine enums have the same
+/// text.
 pub fn texts_of_errors_differ()
     ensures { (one other : Refusal) → text_of one ≡ text_of other → one ≡ other }
 {}
 
-/// Two errors of one enum, or two states of a look, are equal by `==` exactly if they are the same
-/// variant, with the same value inside.
+/// States that two errors of one enum, or two states of a look, are equal by `==` exactly if they are
+/// the same variant, with the same value inside.
 pub fn equality_of_errors()
     ensures event_open { IsEquality ⟦<EventOpenError as PartialEq>⟧.eq }
     ensures event_create { IsEquality ⟦<EventCreateError as PartialEq>⟧.eq }
@@ -55,7 +57,7 @@ pub fn equality_of_errors()
     ensures request_response_state { IsEquality ⟦<request_response::ServiceAvailabilityState as PartialEq>⟧.eq }
 {}
 
-/// What a look finds wrong, whatever the pattern.
+/// The faults that a look finds, whatever the pattern.
 /// Hidden in iceoryx2.
 #[derive(Debug, Clone, Copy, PartialEq, Eq, Hash)]
 pub enum ServiceState {
@@ -65,7 +67,7 @@ pub enum ServiceState {
     InsufficientPermissions,
     /// Somebody is creating the service.
     HangsInCreation,
-    /// The storage is at fault, or the description is none of this service.
+    /// The storage is at fault, or the description is not one of this service.
     Corrupted,
     /// There was no memory for the description.
     OutOfMemory,
@@ -74,18 +76,19 @@ pub enum ServiceState {
 /// Why something isn't closed, or not wholly.
 #[derive(Drop)]
 pub enum CloseError<F> {
-    /// The ticket isn't at this storage. Nothing changed, and here is what was to be closed.
+    /// The ticket isn't at this storage. Nothing changed, and the value inside is the one that was to
+    /// be closed.
     NotHere(F),
-    /// The node's tag is left.
+    /// The node's tag remains.
     TagNotRemoved,
-    /// The service's segment is left.
+    /// The service's segment remains.
     SegmentNotRemoved,
-    /// The service's description is left: the service may stay unusable.
+    /// The service's description remains: the service may stay unusable.
     DescriptionNotRemoved,
 }
 
 impl<F> CloseError<F> {
-    /// The variant's name.
+    /// Returns the variant's name.
     pub fn name(&self) -> &'static str
         ensures { result.now ≡ close_error_name self.now }
     {
@@ -107,7 +110,7 @@ impl<F> fmt::Display for CloseError<F> {
     }
 }
 
-/// Its text, whatever it hands back.
+/// Writes the error's text, whatever value the error hands back.
 impl<F> fmt::Debug for CloseError<F> {
     ghost debug_output = { λ error. Some (codes "CloseError::" ++ close_error_name error) };
 

@@ -1,4 +1,4 @@
-//! The refusal of a call of a builder, whichever it was, and its reason.
+//! The refusal of a builder's call, whichever call it was, and its reason.
 
 ghost use Rattle.std.specs.Prelude.{◌≡◌, Some};
 ghost use Rattle.std.specs.List.{find};
@@ -24,8 +24,8 @@ macro_rules! name_of {
     };
 }
 
-/// Why a call is refused: one for each name that the errors' variants have. What it means of an open or a create stands
-/// at the variants of this name.
+/// Why a call is refused: one reason for each name that the errors' variants have. The variants of this
+/// name tell its meaning for an open or a create.
 #[derive(Debug, Clone, Copy, PartialEq, Eq, Hash)]
 pub enum Reason {
     DoesNotExist,
@@ -71,7 +71,7 @@ pub enum Reason {
 }
 
 impl Reason {
-    /// The variant's name, which the variants of errors that are refused for it have too.
+    /// Returns the variant's name, which is also the name of the errors' variants with this reason.
     pub fn name(self) -> &'static str
         ensures { result.now ≡ reason_name self }
     {
@@ -98,8 +98,8 @@ impl Reason {
             IncompatibleBehaviorForFireAndForgetRequests)
     }
 
-    /// Whether a dead node may be why: it was creating the service, was the last one to leave it, takes a place in it,
-    /// or has removed its segment and not yet its description.
+    /// Returns whether a dead node may be the cause. That node was creating the service, was the last
+    /// one to leave it, takes a place in it, or has removed its segment and not yet its description.
     pub fn may_be_a_dead_node(self) -> bool
         ensures { result ≡ may_be_a_dead_node self }
     {
@@ -114,7 +114,8 @@ impl Reason {
         }
     }
 
-    /// Whether an open or create goes on to the next round, if its open or its create is refused for it.
+    /// Returns whether an open or create goes on to the next round, if its open or its create is
+    /// refused for this reason.
     pub fn is_retried(self) -> bool
         ensures { result ≡ is_retried self }
     {
@@ -143,8 +144,8 @@ pub enum Refusal {
     RequestResponseOpenOrCreate(RequestResponseOpenOrCreateError),
 }
 
-/// The errors of each pattern, those of its opens and those of its creates, in the order of their enums: an error's
-/// place there, from 1, is its number.
+/// The errors of each pattern's opens and creates, in the order of their enums. An error's place in its
+/// enum, from 1, is its number.
 macro_rules! each_error {
     ($make:ident $given:expr) => {
         $make! {
@@ -230,15 +231,16 @@ macro_rules! reason {
 const ALL: [Refusal; 163] = each_error!(all());
 
 impl Refusal {
-    /// Why, in a word that means the same whatever the call.
+    /// Returns the reason, in a word that means the same whatever the call.
     pub fn reason(self) -> Reason
         ensures { result ≡ reason_of self }
     {
         each_error!(reason self)
     }
 
-    /// Its number: a thousand for the call's enum, and the place in that of the error, from 1. Of an open or create an
-    /// error of its create has 500 more. It stays what it is in each version.
+    /// Returns the error's number: a thousand for the call's enum, and the error's place in the enum,
+    /// from 1. If an open or create is refused for an error of its create, the number is 500 more. The
+    /// number is the same in each version.
     pub fn number(self) -> u64
         ensures { result ≡ number_of self }
     {
@@ -274,7 +276,7 @@ impl Refusal {
         }
     }
 
-    /// The refusal of this number, where it is one of a refusal.
+    /// Returns the refusal of this number, if there is one.
     pub fn from_number(number: u64) -> Option<Refusal>
         ensures { result ≡ numbered number }
     {
@@ -291,12 +293,12 @@ fn first_numbered(refusals: &[Refusal], number: u64) -> Option<Refusal>
         .find(|refusal| refusal.number() == number)
 }
 
-/// A refusal is known by its number: no two have the same one.
+/// States that a refusal is known by its number: no two have the same one.
 pub fn refusals_are_known()
     ensures { (refusal : AnyRefusal) → numbered (number_of refusal) ≡ Some refusal }
 {}
 
-/// The text of its error.
+/// Writes the text of the refusal's error.
 impl fmt::Display for Refusal {
     ghost output = { λ refusal. Some (text_of refusal) };
 

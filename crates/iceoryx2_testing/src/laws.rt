@@ -1,4 +1,4 @@
-//! What is true of every run over these storages.
+//! The laws of every run over these storages.
 
 ghost use Rattle.std.specs.Prelude.{◌≡◌, ◌+◌, ◌≤◌, List, length, ◌-◌, ◌^◌, [], map};
 ghost use Rattle.iceoryx2_access.specs.Counts.{CountsEach};
@@ -14,7 +14,7 @@ ghost use Rattle.iceoryx2_testing.specs.Trace.{StaysWithinRoom, KeepsItsRoom, Co
 
 use iceoryx2_access::storage::Storage;
 
-/// What a word of accesses makes of a script.
+/// States the effect of a word of accesses on a script.
 pub fn scripts()
     // It takes a front of the answers.
     ensures front { EachRunPlays }
@@ -27,7 +27,7 @@ pub fn scripts()
         → Run IsScriptAccess a word b → b.counters ≡ counters_along word a.counters }
 {}
 
-/// What a word of accesses makes of a storage of which chosen accesses are refused, whatever it is.
+/// States the effect of a word of accesses on any storage of which chosen accesses are refused.
 pub fn faults<S: Storage>()
     // What it is of the storage inside,
     ensures refusable { (a b : FaultyState S) (word : List Letter) → IsRefusableInside S.step a b word }
@@ -44,7 +44,7 @@ pub fn faults<S: Storage>()
         → Run (IsInjectedFault S.step) a word b → b.refused ≡ a.refused }
 {}
 
-/// What a word of accesses makes of a traced storage, whatever is inside.
+/// States the effect of a word of accesses on a traced storage, whatever is inside.
 pub fn traces<S: Storage>()
     // It is the same word of the storage inside.
     ensures inside { (a b : TracedState S) (word : List Letter)

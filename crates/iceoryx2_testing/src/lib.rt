@@ -1,18 +1,19 @@
-//! Storages in place of another, or around one: `Script` answers from a list, `Faulty` refuses chosen accesses, and
-//! `Traced` keeps what was asked and answered.
+//! Storages that replace another storage, or wrap one: `Script` answers from a list, `Faulty` refuses chosen
+//! accesses, and `Traced` records the accesses and their answers.
 //!
-//! Each access of `Script` takes the front answer where it is of its kind; another front stays, and it and an empty
-//! list give the general fault (`IsScriptAccess`). Each access of `Faulty`, over any storage, is its general fault
-//! with the storage inside unchanged where its number is listed, counted from 1, and else the access of that
-//! storage (`IsInjectedFault`). Each access of `Traced` is the access of the storage inside with its answer; a record
-//! of it (`entry_of`, with its text `entry_text`) is kept after the others, of which the oldest is forgotten where
-//! there is no more room, and it counts (`IsTracedAccess`).
+//! Each access of `Script` takes the first answer if it is of the access's kind. A first answer of another kind
+//! stays. Then, and if the list is empty, the access gives the general fault (`IsScriptAccess`). `Faulty` wraps any
+//! storage, and counts accesses from 1. If an access's number is listed, it gives its general fault, and the
+//! storage inside is unchanged. Otherwise it is the access of the storage inside (`IsInjectedFault`). Each access
+//! of `Traced` is the access of the storage inside, with the same answer. A record of the access (`entry_of`, with
+//! its text `entry_text`) is kept after the others. If there is no more room, the oldest record is forgotten. The
+//! access is also counted (`IsTracedAccess`).
 //!
-//! `laws::scripts()`: along any run the answers before are those that were taken, in order, and then those that are
-//! left. `laws::faults()`: a run over a faulty storage is a run of the storage inside of which any access may be
-//! refused, and one of that storage alone where none of the run's own is (`RefusesNone`). `laws::traces()`: a run over
-//! a traced storage is the same run of the storage inside; from a new or cleared one what is kept is of the last
-//! accesses of the word, as many as there is room for.
+//! `laws::scripts()`: along any run the answers before it are those that it took, in order, and then those that are
+//! left. `laws::faults()`: a run over a faulty storage is a run of the storage inside in which any access may be
+//! refused. If none of the run's own accesses is refused, it is a run of that storage alone (`RefusesNone`).
+//! `laws::traces()`: a run over a traced storage is the same run of the storage inside. From a new or cleared one,
+//! the records that are kept are those of the last accesses of the word, as many as there is room for.
 #![tactic(auto)]
 
 pub mod laws;

@@ -16,7 +16,7 @@ use iceoryx2_access::storage::{
 use iceoryx2_description::description::{ServiceHash, StaticConfig};
 use std::marker::Model;
 
-/// What one access answers.
+/// The answer to one access.
 #[derive(Debug, PartialEq, Eq, Drop)]
 pub enum Answer {
     Exists(Existence),
@@ -33,8 +33,9 @@ pub enum Answer {
     Release(Result<Release, ReleaseError>),
 }
 
-/// A storage that answers from a list. An access takes the front answer where it is of the access's kind.
-/// A front of another kind stays where it is; it and an empty list give the access's general fault.
+/// A storage that answers from a list. An access takes the first answer if it is of the access's kind.
+/// A first answer of another kind stays. Then, and if the list is empty, the access gives its general
+/// fault.
 #[derive(Drop)]
 pub struct Script {
     queue: Queue,
@@ -50,7 +51,7 @@ impl Model for Script {
 }
 
 impl Script {
-    /// A script of these answers, of which nothing was asked yet.
+    /// Returns a script of these answers, before any access.
     pub fn new(answers: Vec<Answer>) -> Script
         ensures { result ≡ record {
           remaining = answers.items;
@@ -63,28 +64,28 @@ impl Script {
         }
     }
 
-    /// The answers that weren't taken, in order.
+    /// Returns the answers that weren't taken, in order.
     pub fn left(&self) -> &[Answer]
         ensures { result.now ≡ self.now.remaining }
     {
         self.queue.left()
     }
 
-    /// How often `exists` was called. Stops at `u64::MAX`.
+    /// Returns the number of calls of `exists`. It stops at `u64::MAX`.
     pub fn looks(&self) -> u64
         ensures { result ≡ self.now.counters.looks }
     {
         self.counters.looks
     }
 
-    /// How often `open_segment` was called. Stops at `u64::MAX`.
+    /// Returns the number of calls of `open_segment`. It stops at `u64::MAX`.
     pub fn openings(&self) -> u64
         ensures { result ≡ self.now.counters.openings }
     {
         self.counters.openings
     }
 
-    /// How often `make_segment` was called. Stops at `u64::MAX`.
+    /// Returns the number of calls of `make_segment`. It stops at `u64::MAX`.
     pub fn makings(&self) -> u64
         ensures { result ≡ self.now.counters.makings }
     {

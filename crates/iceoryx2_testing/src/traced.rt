@@ -1,4 +1,4 @@
-//! A storage that keeps what was asked of another, and what it answered.
+//! A storage that records the accesses of another storage, and their answers.
 
 ghost use Rattle.std.specs.Prelude.{◌≡◌, ◌≤◌, ◌-◌, ◌++◌, ◌↔◌, IsTrue, [], length, MatchResult};
 ghost use Rattle.std.specs.Slice.{IsItemAt};
@@ -19,9 +19,9 @@ use iceoryx2_description::description::{ServiceHash, StaticConfig};
 use std::alloc::{AllocFailed, Global};
 use std::marker::{Model, PhantomData};
 
-/// A storage that keeps the latest accesses of another. Each access is one of the storage inside, and
-/// answers what that answers. No access takes memory for it: room for so many traced accesses is asked for
-/// once, and where it is full the oldest one is forgotten.
+/// A storage that records the latest accesses of another storage. Each access is one of the storage
+/// inside, and returns its answer. No access takes memory for its record: room for a fixed number of
+/// traced accesses is asked for once. If the room is full, the oldest traced access is forgotten.
 #[derive(Drop)]
 pub struct Traced<S> {
     inner: S,
@@ -45,8 +45,8 @@ impl<S> Traced<S> {
     ghost use Rattle.std.specs.Borrow.{sem};
     ghost use Rattle.iceoryx2_testing.specs.TracedLends.{lends_inner};
 
-    /// The storage `inner`, with room for so many entries. Where there is no memory for them the storage
-    /// comes back as it is in the error's `value`.
+    /// Returns the storage `inner`, with room for `room` entries. If there is no memory for them, the
+    /// error's `value` is the storage as it is.
     pub fn new(alloc: Global, inner: S, room: usize) -> Result<Traced<S>, AllocFailed<S>>
         ensures { MatchResult result
             (λ traced. traced ≡ record { inner = inner; entries = []; room = room; total = 0 })
@@ -58,14 +58,14 @@ impl<S> Traced<S> {
         }
     }
 
-    /// The storage inside.
+    /// Returns the storage inside.
     pub fn inner(&self) -> &S
         ensures { result.now ≡ self.now.inner }
     {
         &self.inner
     }
 
-    /// The storage inside, for writing. What is done to it that way isn't traced.
+    /// Returns the storage inside, for writing. Anything that is done to it that way isn't traced.
     pub fn inner_mut(&mut self) -> &mut S
         ensures* writes_back { sem 𝓛 (lends_inner S.row self.entry result) }
         ensures value { result.now ≡ self.old.inner }
@@ -73,7 +73,7 @@ impl<S> Traced<S> {
         &mut self.inner
     }
 
-    /// The storage inside, alone.
+    /// Returns the storage inside, alone.
     pub fn into_inner(self) -> S
         ensures { result ≡ self.inner }
     {
@@ -81,21 +81,22 @@ impl<S> Traced<S> {
         inner
     }
 
-    /// The traced accesses, oldest first: those of the first slice, and then those of the second.
+    /// Returns the traced accesses, oldest first: those of the first slice, and then those of the
+    /// second.
     pub fn accesses(&self) -> (&[TracedAccess], &[TracedAccess])
         ensures { result.0.now ++ result.1.now ≡ self.now.entries }
     {
         self.trace.accesses()
     }
 
-    /// The traced access at an index, of which the oldest is at 0, or none past the latest.
+    /// Returns the traced access at an index, or `None` past the latest. The oldest is at 0.
     pub fn get(&self, index: usize) -> Option<&TracedAccess>
         ensures { IsItemAt self.now.entries index result }
     {
         self.trace.get(index)
     }
 
-    /// How many accesses are kept.
+    /// Returns the number of accesses that are kept.
     pub fn len(&self) -> usize
         ensures len { result ≡ length self.now.entries }
         ensures bound { result ≤ self.now.room }
@@ -103,36 +104,36 @@ impl<S> Traced<S> {
         self.trace.len()
     }
 
-    /// Whether no access is kept.
+    /// Returns whether no access is kept.
     pub fn is_empty(&self) -> bool
         ensures { IsTrue result ↔ (self.now.entries ≡ []) }
     {
         self.trace.is_empty()
     }
 
-    /// How many accesses there is room for.
+    /// Returns the number of accesses that there is room for.
     pub fn room(&self) -> usize
         ensures { result ≡ self.now.room }
     {
         self.trace.room()
     }
 
-    /// How many accesses there were. Stops at `u64::MAX`.
+    /// Returns the number of all accesses. It stops at `u64::MAX`.
     pub fn total(&self) -> u64
         ensures { result ≡ self.now.total }
     {
         self.trace.total()
     }
 
-    /// How many of them aren't kept any more, because there was no room or they were cleared. Stops
-    /// where `total` stops.
+    /// Returns the number of accesses that aren't kept any more, because there was no room or they were
+    /// cleared. It stops when `total` stops.
     pub fn forgotten(&self) -> u64
         ensures { result ≡ self.now.total - length self.now.entries }
     {
         self.trace.total().saturating_sub(self.trace.len() as u64)
     }
 
-    /// Forgets all accesses. The room stays, and so does what `total` counts.
+    /// Forgets all accesses. The room stays, and so does the number that `total` returns.
     pub fn clear(&mut self)
         ensures { self.new ≡ record self.old { entries = [] } }
     {
@@ -140,7 +141,7 @@ impl<S> Traced<S> {
     }
 }
 
-/// What is kept of a fetch's answer.
+/// Returns the record of a fetch's answer.
 fn fetched(answer: &Result<(u64, Vec<u8>), FetchError>) -> Result<Fetched, FetchError>
     ensures { result ≡ fetched_of (fetch_answer answer.now) }
 {

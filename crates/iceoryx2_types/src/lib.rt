@@ -1,14 +1,16 @@
-//! What messages of services are made of: types with their details, and which of them fit.
+//! The types of a service's messages: their details, and which of them are compatible.
 //!
-//! `TypeDetail::new` refuses a name of no byte or more than 256, and then an alignment that is no power of two,
-//! exactly where the tests before pass; `Alignment::new` is `None` exactly where the number is no power of two.
-//! Readers, `clone`, `==` and texts are exact (`equality_of_types()`).
+//! `TypeDetail::new` tests the name first and then the alignment. It refuses a name that does not have 1 to 256
+//! bytes, and an alignment that is not a power of two. Each error comes exactly if the tests before it pass.
+//! `Alignment::new` is `None` exactly if the number is not a power of two. Readers, `clone`, `==` and texts are
+//! exact (`equality_of_types()`).
 //!
-//! Each type of `ZeroCopySend` answers the constants of its implementation (`Detail`): its alignment is a power of
-//! two, its size a multiple of that, and its name has 1 to 256 bytes. `with_overrides` puts the user header and the
-//! payload that are given in place of a message's own, and then aligns the payload as the greater of its alignment
-//! and the one that is asked. `laws_of_compatibility()`: compatibility is reflexive and transitive, its test
-//! decides it (`IsCompatible`), and what is taken for an alignment are exactly the powers of two.
+//! Each type of `ZeroCopySend` answers the constants of its implementation (`Detail`). Its alignment is a power of
+//! two, its size is a multiple of the alignment, and its name has 1 to 256 bytes. `with_overrides` replaces a
+//! message's own user header and payload with those that are given. Then it aligns the payload to the greater of
+//! the payload's alignment and the alignment that is asked for. `laws_of_compatibility()` states that compatibility
+//! is reflexive and transitive, and that its test decides it (`IsCompatible`). It also states that exactly the
+//! powers of two are taken for an alignment.
 #![tactic(auto)]
 
 pub mod types;

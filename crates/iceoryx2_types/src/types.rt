@@ -1,4 +1,4 @@
-//! Types of messages: what nodes have to know of them, and which types say it of themselves.
+//! Types of messages: the details that nodes need, and the types that state their own details.
 
 ghost use Rattle.std.specs.Prelude.{◌≡◌, ◌↔◌, ℕ, IsTrue, codes};
 ghost use Rattle.std.specs.Int.{IsPowerOfTwo};
@@ -30,7 +30,8 @@ pub const MIN_TYPE_NAME_LENGTH: usize = 1;
 /// The length of the longest name of a type, in bytes.
 pub const MAX_TYPE_NAME_LENGTH: usize = 256;
 
-/// The limits as numbers, since a wrong constant would go with the definitions that cite it.
+/// States the limits as numbers, because a wrong constant would also change the definitions that cite
+/// it.
 pub fn limits_of_type_names()
     ensures min_name { MIN_TYPE_NAME_LENGTH ≡ 1 }
     ensures max_name { MAX_TYPE_NAME_LENGTH ≡ 256 }
@@ -45,12 +46,12 @@ pub enum TypeVariant {
     Dynamic,
 }
 
-/// Why details aren't those of a type. They are tested in this order.
+/// Why details aren't those of a type. The errors are tested in this order.
 #[derive(Clone, Copy, Debug, PartialEq, Eq)]
 pub enum TypeDetailError {
     /// The name has no byte, or more than 256.
     NameLength,
-    /// The alignment is no power of two.
+    /// The alignment is not a power of two.
     Alignment,
     /// There was no memory for a copy of the name.
     OutOfMemory,
@@ -73,9 +74,10 @@ impl fmt::Display for TypeDetailError {
 
 impl Error for TypeDetailError {}
 
-/// What compatibility is as a relation: each message is compatible to itself, and to what one is
-/// compatible to that it is compatible to. The test for it decides it, and what is taken for an
-/// alignment is 2 to some power.
+/// States compatibility as a relation. Each message is compatible with itself. If one message is
+/// compatible with a second, and the second with a third, then the first is compatible with the third.
+/// The test for compatibility decides the relation. A number that is taken for an alignment is 2 to
+/// some power.
 #[tactic(auto, using(crate::proofs::Compatible::reflexive, crate::proofs::Compatible::transitive))]
 pub fn laws_of_compatibility()
     ensures reflexive { (a : Message) → IsCompatible a a }
@@ -84,8 +86,8 @@ pub fn laws_of_compatibility()
     ensures alignments { (n : ℕ) → IsAlignment n ↔ IsPowerOfTwo n }
 {}
 
-/// What each type says of itself as written values, since a wrong name, size or alignment would go
-/// with the ghost `detail` of its implementation. All are of one value.
+/// States the details of each type as written values, because a wrong name, size or alignment would
+/// also change the ghost `detail` of its implementation. All are of one value.
 pub fn details_of_types()
     ensures unit { ⟦<() as ZeroCopySend>⟧.detail ≡ fixed_size (codes "()") 0 1 }
     ensures truth { ⟦<bool as ZeroCopySend>⟧.detail ≡ fixed_size (codes "bool") 1 1 }
@@ -114,13 +116,13 @@ pub fn details_of_types()
         ≡ fixed_size (codes "request_response::ResponseHeader") 32 8 }
 {}
 
-/// A number of values has the name, the size and the alignment of one.
+/// States that a number of values has the name, the size and the alignment of one value.
 pub fn details_of_slices<P: ZeroCopySend>()
     ensures { ⟦<Slice<P> as ZeroCopySend>⟧.detail ≡ with_variant P.detail Dynamic }
 {}
 
-/// Two values of one of these types are equal by `==` exactly if they are the same value: the same
-/// variant, or the same in all fields.
+/// States that two values of one of these types are equal by `==` exactly if they are the same value:
+/// the same variant, or the same in all fields.
 #[tactic(auto, using(crate::proofs::Equality::messages))]
 pub fn equality_of_types()
     ensures variant { (a b : TypeVariant) → IsTrue (⟦<TypeVariant as PartialEq>⟧.eq a b) ↔ (a ≡ b) }
@@ -130,7 +132,7 @@ pub fn equality_of_types()
     ensures message { (a b : Message) → IsTrue (⟦<MessageTypeDetails as PartialEq>⟧.eq a b) ↔ (a ≡ b) }
 {}
 
-/// Whether a text has as many bytes as a type's name may have.
+/// Returns whether a text has as many bytes as a type's name may have.
 fn has_name_length(name: &str) -> bool
     ensures { IsTrue result ↔ HasNameLength name.now }
 {

@@ -30,7 +30,7 @@ impl Model for Key {
 }
 
 impl Key {
-    /// The key as a text.
+    /// Returns the key as a text.
     pub fn as_str(&self) -> &str
         ensures value { result.now ≡ self.now }
         ensures limits { IsKey self.now }
@@ -38,7 +38,7 @@ impl Key {
         &self.text
     }
 
-    /// A copy of a text that has its length already.
+    /// Returns a key with a copy of a text, whose length is already within the limits.
     fn from_str(alloc: Global, text: &str) -> Result<Key, AllocError>
         requires { IsKey text.now }
         ensures { IfOk result (λ key. key ≡ text.now) }
@@ -78,7 +78,7 @@ impl Model for KeyList {
 }
 
 impl KeyList {
-    /// No keys, and no memory.
+    /// Returns a list without keys, which takes no memory.
     pub(crate) fn new(alloc: Global) -> KeyList
         ensures value { result ≡ [] }
         ensures limits { AreKeys result }
@@ -88,7 +88,7 @@ impl KeyList {
         }
     }
 
-    /// The keys in their order.
+    /// Returns the keys in their order.
     pub(crate) fn keys(&self) -> &[Key]
         ensures value { result.now ≡ self.now }
         ensures limits { AreKeys self.now }
@@ -96,8 +96,8 @@ impl KeyList {
         &self.keys
     }
 
-    /// Puts a key in its place, which is found by halving. A key that is there already is taken
-    /// before their number is looked at.
+    /// Puts a key in its place, which is found by halving. A key that is there already is accepted
+    /// before the number of keys is tested.
     pub(crate) fn add(&mut self, key: &str) -> Result<(), AttributeError>
         ensures answer { AddsKey self.old key.now result self.new }
         ensures limits { AreKeys self.new }
@@ -151,7 +151,7 @@ impl Clone for KeyList {
     }
 }
 
-/// Where a key stands, or where it would go, by halving.
+/// Returns the place of a key, or the place where it would go, by halving.
 fn place_of_key(keys: &[Key], key: &str) -> Result<usize, usize>
     requires { IsTrue (ascends_by key_before keys.now) }
     ensures found { IfOk result (λ _. lists_key keys.now key.now ≡ true) }

@@ -31,7 +31,7 @@ impl Model for Attribute {
 }
 
 impl Attribute {
-    /// The key as a text.
+    /// Returns the key as a text.
     pub fn key(&self) -> &str
         ensures value { result.now ≡ self.now.key }
         ensures limits { IsKey self.now.key }
@@ -39,7 +39,7 @@ impl Attribute {
         &self.key
     }
 
-    /// The value as a text.
+    /// Returns the value as a text.
     pub fn value(&self) -> &str
         ensures value { result.now ≡ self.now.value }
         ensures limits { IsValue self.now.value }
@@ -47,7 +47,7 @@ impl Attribute {
         &self.value
     }
 
-    /// A pair of texts that have their lengths already.
+    /// Returns a pair of two texts, whose lengths are already within the limits.
     fn from_texts(key: String, value: String) -> Attribute
         requires { IsPair (pair_of (string_bytes key) (string_bytes value)) }
         ensures { result ≡ pair_of (string_bytes key) (string_bytes value) }
@@ -55,7 +55,7 @@ impl Attribute {
         Attribute { key, value }
     }
 
-    /// A copy of both texts.
+    /// Returns a pair with copies of both texts.
     fn from_strs(alloc: Global, key: &str, value: &str) -> Result<Attribute, AllocError>
         requires { IsPair (pair_of key.now value.now) }
         ensures { IfOk result (λ pair. pair ≡ pair_of key.now value.now) }
@@ -65,7 +65,7 @@ impl Attribute {
         Ok(Attribute::from_texts(key, value))
     }
 
-    /// How it stands to a pair: by the bytes of the keys, then of the values.
+    /// Compares this pair with another: by the bytes of the keys, and then of the values.
     fn compare(&self, key: &str, value: &str) -> Ordering
         ensures { result ≡ pair_cmp self.now (pair_of key.now value.now) }
     {
@@ -133,7 +133,7 @@ impl Model for AttributeSet {
 }
 
 impl AttributeSet {
-    /// No attributes, and no memory.
+    /// Returns a set without attributes, which takes no memory.
     pub fn new(alloc: Global) -> AttributeSet
         ensures value { result ≡ [] }
         ensures limits { AreAttributes result }
@@ -143,7 +143,7 @@ impl AttributeSet {
         }
     }
 
-    /// The attributes in their order.
+    /// Returns the attributes in their order.
     pub fn pairs(&self) -> &[Attribute]
         ensures value { result.now ≡ self.now }
         ensures limits { AreAttributes self.now }
@@ -151,7 +151,7 @@ impl AttributeSet {
         &self.pairs
     }
 
-    /// How many there are.
+    /// Returns the number of attributes.
     pub fn len(&self) -> usize
         ensures value { result ≡ length self.now }
         ensures limits { result ≤ MAX_ATTRIBUTES }
@@ -159,16 +159,16 @@ impl AttributeSet {
         self.pairs.len()
     }
 
-    /// Whether there are none.
+    /// Returns whether there are no attributes.
     pub fn is_empty(&self) -> bool
         ensures { IsTrue result ↔ (self.now ≡ []) }
     {
         self.pairs.is_empty()
     }
 
-    /// Puts a pair after the others, without a search. It is refused where with it the pairs would
-    /// not ascend, where there are 64 already, and where a length is past its limit; then nothing
-    /// changes, and nothing does where memory runs out.
+    /// Puts a pair after the others, without a search. `Refused` if the pairs would then not ascend, if
+    /// there are 64 already, or if a length is past its limit. `OutOfMemory` if there was no memory for
+    /// the pair. An error changes nothing.
     pub fn push_ascending(&mut self, key: String, value: String) -> Result<(), PushError>
         ensures pushed { let pair = pair_of (string_bytes key) (string_bytes value) in
             OnOk result (self.new ≡ self.old ++ pair ∷ []) }
@@ -186,7 +186,7 @@ impl AttributeSet {
         }
     }
 
-    /// Whether they are still attributes with this pair behind them.
+    /// Returns whether the pairs are still attributes with this pair after them.
     fn takes_next(&self, key: &str, value: &str) -> bool
         ensures { IsTrue result ↔ AreAttributes (self.now ++ pair_of key.now value.now ∷ []) }
     {
@@ -197,8 +197,8 @@ impl AttributeSet {
         has_room && last_is_before(&self.pairs, key, value)
     }
 
-    /// Puts a pair in its place, which is found by halving. Refusals are tested in the order of
-    /// `AttributeError`; a pair that is there already is taken before their number is looked at.
+    /// Puts a pair in its place, which is found by halving. Errors are tested in the order of
+    /// `AttributeError`. A pair that is there already is accepted before the number of pairs is tested.
     pub(crate) fn add(&mut self, key: &str, value: &str) -> Result<(), AttributeError>
         ensures answer { AddsPair self.old (pair_of key.now value.now) result self.new }
         ensures limits { AreAttributes self.new }
@@ -243,14 +243,14 @@ impl AttributeSet {
         }
     }
 
-    /// Whether a pair is there, by halving.
+    /// Returns whether a pair is there, by halving.
     pub(crate) fn has_pair(&self, pair: &Attribute) -> bool
         ensures { result ≡ has_pair self.now pair.now }
     {
         place_of_pair(&self.pairs, pair.key(), pair.value()).is_ok()
     }
 
-    /// Whether a key has a value, by halving.
+    /// Returns whether a key has a value, by halving.
     pub(crate) fn has_key(&self, key: &str) -> bool
         ensures { result ≡ has_key self.now key.now }
     {
@@ -294,7 +294,7 @@ impl Clone for AttributeSet {
     }
 }
 
-/// Where a pair stands, or where it would go, by halving.
+/// Returns the place of a pair, or the place where it would go, by halving.
 fn place_of_pair(pairs: &[Attribute], key: &str, value: &str) -> Result<usize, usize>
     requires { IsTrue (ascends pairs.now) }
     ensures found { IfOk result (λ _. has_pair pairs.now (pair_of key.now value.now) ≡ true) }
@@ -307,7 +307,7 @@ fn place_of_pair(pairs: &[Attribute], key: &str, value: &str) -> Result<usize, u
     pairs.binary_search_by(|pair| pair.compare(key, value))
 }
 
-/// Whether a key has a value, by halving.
+/// Returns whether a key has a value, by halving.
 fn finds_key(pairs: &[Attribute], key: &str) -> bool
     requires { IsTrue (ascends pairs.now) }
     ensures { result ≡ has_key pairs.now key.now }
@@ -315,7 +315,7 @@ fn finds_key(pairs: &[Attribute], key: &str) -> bool
     pairs.binary_search_by(|pair| pair.key().cmp(key)).is_ok()
 }
 
-/// Whether a pair may follow the last one.
+/// Returns whether a pair may follow the last one.
 #[tactic(auto, using(crate::proofs::Pairs::ascends_behind))]
 fn last_is_before(pairs: &[Attribute], key: &str, value: &str) -> bool
     requires { IsTrue (ascends pairs.now) }

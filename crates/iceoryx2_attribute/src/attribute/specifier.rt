@@ -1,4 +1,4 @@
-//! What attributes a service is to be created with.
+//! The attributes that a service is to be created with.
 
 ghost use Rattle.std.specs.Prelude.{◌≡◌, []};
 ghost use Rattle.iceoryx2_attribute.specs.Attributes.{AreAttributes, pair_of};
@@ -31,7 +31,7 @@ impl Model for AttributeSpecifier {
 }
 
 impl AttributeSpecifier {
-    /// No attributes, and no memory.
+    /// Returns a specifier without attributes, which takes no memory.
     pub fn new(alloc: Global) -> AttributeSpecifier
         ensures { result ≡ [] }
     {
@@ -40,17 +40,17 @@ impl AttributeSpecifier {
         }
     }
 
-    /// Adds a pair. `KeyLength` where the key has no byte or more than 64, `ValueLength` where the
-    /// value has more than 256, `TooMany` where the pair isn't there and 64 are, and `OutOfMemory`
-    /// where it found no memory, tested in this order. A refusal changes nothing, and so does a
-    /// pair that is there already.
+    /// Adds a pair. The errors, tested in this order: `KeyLength` if the key does not have 1 to 64
+    /// bytes, `ValueLength` if the value has more than 256, `TooMany` if the pair isn't there and 64
+    /// others are, and `OutOfMemory` if there was no memory for the pair. An error changes nothing, and
+    /// neither does a pair that is there already.
     pub fn define(&mut self, key: &str, value: &str) -> Result<(), AttributeError>
         ensures { AddsPair self.old (pair_of key.now value.now) result self.new }
     {
         self.set.add(key, value)
     }
 
-    /// The attributes so far.
+    /// Returns the attributes so far.
     pub fn attributes(&self) -> &AttributeSet
         ensures value { result.now ≡ self.now }
         ensures limits { AreAttributes self.now }
@@ -59,7 +59,7 @@ impl AttributeSpecifier {
         &self.set
     }
 
-    /// The attributes, handed out.
+    /// Returns the attributes, and consumes the specifier.
     pub fn into_attributes(self) -> AttributeSet
         ensures value { result ≡ self }
         ensures limits { AreAttributes result }
@@ -75,7 +75,7 @@ impl From<AttributeSet> for AttributeSpecifier {
 
     ghost from_gives = { λ set specifier. specifier ≡ set };
 
-    /// One that defines these attributes. Takes no memory.
+    /// Returns a specifier that defines these attributes. It takes no memory.
     fn from(set: AttributeSet) -> AttributeSpecifier {
         AttributeSpecifier { set }
     }

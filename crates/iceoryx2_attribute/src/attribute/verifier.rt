@@ -1,4 +1,4 @@
-//! What a node requires of a service's attributes.
+//! The requirements of a node on a service's attributes.
 
 ghost use Rattle.std.specs.Prelude.{◌≡◌, ◌↔◌, Some, None, IsOk, MatchResult};
 ghost use Rattle.std.specs.Option.{option_copied};
@@ -12,7 +12,7 @@ use super::{Attribute, AttributeError, AttributeSet, Key};
 use std::alloc::{AllocError, Global};
 use std::marker::Model;
 
-/// The pairs that a service has to have, and the keys that it has to have with any value.
+/// The pairs that a service must have, and the keys that it must have with any value.
 #[derive(Debug)]
 pub struct AttributeVerifier {
     pairs: AttributeSet,
@@ -37,7 +37,7 @@ impl Model for AttributeVerifier {
 }
 
 impl AttributeVerifier {
-    /// No requirements, and no memory.
+    /// Returns a verifier without requirements, which takes no memory.
     pub fn new(alloc: Global) -> AttributeVerifier
         ensures { result ≡ no_requirements }
     {
@@ -47,10 +47,10 @@ impl AttributeVerifier {
         }
     }
 
-    /// Requires a pair. `KeyLength` where the key has no byte or more than 64, `ValueLength` where
-    /// the value has more than 256, `TooMany` where the pair isn't there and 64 are, and
-    /// `OutOfMemory` where it found no memory, tested in this order. A refusal changes nothing,
-    /// and so does a pair that is there already.
+    /// Requires a pair. The errors, tested in this order: `KeyLength` if the key does not have 1 to 64
+    /// bytes, `ValueLength` if the value has more than 256, `TooMany` if the pair isn't there and 64
+    /// others are, and `OutOfMemory` if there was no memory for the pair. An error changes nothing, and
+    /// neither does a pair that is there already.
     pub fn require(&mut self, key: &str, value: &str) -> Result<(), AttributeError>
         ensures pairs { AddsPair self.old.pairs (pair_of key.now value.now) result self.new.pairs }
         ensures keys { self.new.keys ≡ self.old.keys }
@@ -58,9 +58,10 @@ impl AttributeVerifier {
         self.pairs.add(key, value)
     }
 
-    /// Requires a key, with any value. `KeyLength` where it has no byte or more than 64, `TooMany`
-    /// where it isn't there and 64 are, and `OutOfMemory` where it found no memory, tested in this
-    /// order. A refusal changes nothing, and so does a key that is there already.
+    /// Requires a key, with any value. The errors, tested in this order: `KeyLength` if the key does
+    /// not have 1 to 64 bytes, `TooMany` if the key isn't there and 64 others are, and `OutOfMemory` if
+    /// there was no memory for the key. An error changes nothing, and neither does a key that is there
+    /// already.
     pub fn require_key(&mut self, key: &str) -> Result<(), AttributeError>
         ensures keys { AddsKey self.old.keys key.now result self.new.keys }
         ensures pairs { self.new.pairs ≡ self.old.pairs }
@@ -68,7 +69,7 @@ impl AttributeVerifier {
         self.keys.add(key)
     }
 
-    /// The required pairs.
+    /// Returns the required pairs.
     pub fn required_attributes(&self) -> &AttributeSet
         ensures value { result.now ≡ self.now.pairs }
         ensures limits { AreRequirements self.now }
@@ -76,7 +77,7 @@ impl AttributeVerifier {
         &self.pairs
     }
 
-    /// The required pairs, handed out.
+    /// Returns the required pairs, and consumes the verifier.
     pub fn into_required_attributes(self) -> AttributeSet
         ensures { result ≡ self.pairs }
     {
@@ -84,7 +85,7 @@ impl AttributeVerifier {
         pairs
     }
 
-    /// The required keys, ascending by their bytes.
+    /// Returns the required keys, ascending by their bytes.
     pub fn required_keys(&self) -> &[Key]
         ensures value { result.now ≡ self.now.keys }
         ensures limits { AreRequirements self.now }
@@ -92,9 +93,9 @@ impl AttributeVerifier {
         self.keys.keys()
     }
 
-    /// Ok where the attributes have each required pair and a value for each required key. Else the
-    /// key of the first required pair that they lack, or, where they have them all, the first
-    /// required key without any value.
+    /// Returns Ok if the attributes have each required pair and a value for each required key.
+    /// Otherwise returns the key of the first required pair that they lack. If they have all pairs,
+    /// returns the first required key without any value.
     #[tactic(auto, using(crate::proofs::Requirements::is_met, crate::proofs::Requirements::is_unmet))]
     pub fn verify_requirements(&self, attributes: &AttributeSet) -> Result<(), &str>
         ensures first { MatchResult result
@@ -108,7 +109,8 @@ impl AttributeVerifier {
         }
     }
 
-    /// The key of the first required pair, or else the first required key, that is lacking.
+    /// Returns the key of the first required pair that is lacking, or else the first required key that
+    /// is lacking.
     #[tactic(auto, unfolding(crate::specs::Requirements::first_lacking))]
     fn first_lacking(&self, attributes: &AttributeSet) -> Option<&str>
         ensures { option_copied result ≡ first_lacking self.now attributes.now }
@@ -136,7 +138,7 @@ impl Clone for AttributeVerifier {
     }
 }
 
-/// The first required pair that the attributes lack.
+/// Returns the first required pair that the attributes lack.
 #[tactic(auto, unfolding(crate::specs::Requirements::lacking_pair))]
 fn first_lacking_pair<'a>(
     required: &'a [Attribute],
@@ -147,7 +149,7 @@ fn first_lacking_pair<'a>(
     required.iter().find(|pair| !attributes.has_pair(pair))
 }
 
-/// The first required key for which the attributes have no value.
+/// Returns the first required key for which the attributes have no value.
 #[tactic(auto, unfolding(crate::specs::Requirements::lacking_key))]
 fn first_lacking_key<'a>(required: &'a [Key], attributes: &AttributeSet) -> Option<&'a Key>
     ensures { option_copied result ≡ lacking_key required.now attributes.now }

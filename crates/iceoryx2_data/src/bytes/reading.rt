@@ -1,4 +1,5 @@
-//! Reading the byte form from left to right: each part gives its value and the bytes after it.
+//! Reads the byte form from left to right. Each function returns the part's value and the bytes after
+//! the part.
 
 ghost use Rattle.std.specs.Prelude.{◌≡◌, ◌<◌, ◌≤◌, None, length, OnOk};
 ghost use Rattle.iceoryx2_attribute.specs.Attributes.{AreAttributes};
@@ -100,7 +101,7 @@ fn publish_subscribe_of(
     ))
 }
 
-/// The messages of a service's requests and of its responses.
+/// Reads the messages of a service's requests and of its responses.
 #[tactic(auto, unfolding(crate::specs::Reading::messages_at))]
 fn messages_of(
     alloc: Global,
@@ -183,7 +184,7 @@ fn name_of(alloc: Global, bytes: &[u8]) -> Result<(ServiceName, &[u8]), DecodeEr
     Ok((ServiceName::from_text(text), rest))
 }
 
-/// Reads a pair and puts it behind the others. `Malformed` also where they would not ascend then.
+/// Reads a pair and puts it after the others. `Malformed` also if they would then not ascend.
 #[tactic(auto, unfolding(crate::specs::Reading::pair_at, crate::specs::Reading::more_at))]
 fn push_pair_of<'a>(
     alloc: Global,
@@ -204,7 +205,7 @@ fn push_pair_of<'a>(
     }
 }
 
-/// So many pairs, each put behind those before it.
+/// Reads `count` pairs, and puts each after those before it.
 fn pairs_of(alloc: Global, count: usize, bytes: &[u8]) -> Result<(AttributeSet, &[u8]), DecodeError>
     requires { count ≤ MAX_ATTRIBUTES }
     ensures { IsReadBy (λ x. (x.0, x.1.now)) result (pairs_at count bytes.now) }
@@ -229,7 +230,7 @@ fn attributes_of(alloc: Global, bytes: &[u8]) -> Result<(AttributeSet, &[u8]), D
     pairs_of(alloc, count, rest)
 }
 
-/// The version, and the creator's id where it is the one with a creator.
+/// Reads the version, and the creator's id if the version is the one with a creator.
 #[tactic(auto, unfolding(crate::specs::Reading::versioned_at))]
 fn versioned_of(bytes: &[u8]) -> Result<(Option<u64>, &[u8]), DecodeError>
     ensures { IsReadBy (λ x. (x.0, x.1.now)) result (versioned_at bytes.now) }
@@ -245,7 +246,7 @@ fn versioned_of(bytes: &[u8]) -> Result<(Option<u64>, &[u8]), DecodeError>
     }
 }
 
-/// The description that all of the bytes are.
+/// Returns the description that all of the bytes together are.
 #[tactic(auto, unfolding(crate::specs::Reading::description_at, crate::specs::Reading::all_of))]
 pub fn all(alloc: Global, bytes: &[u8]) -> Result<StaticConfig, DecodeError>
     ensures { IsReadBy (λ d. d) result (all_of bytes.now) }

@@ -1,12 +1,12 @@
-//! How many bytes a form has, so that its memory is asked for once. A wrong number would cost time or memory and
-//! change no form, so it is only tested.
+//! Counts the bytes of a form, so that the form's memory is asked for once. A wrong number would cost
+//! time or memory but change no form, so the number is only tested.
 
 use iceoryx2_attribute::attribute::AttributeSet;
 use iceoryx2_description::description::{MessagingPattern, StaticConfig};
 use iceoryx2_description::event::{self, Deadline, EventId};
 use iceoryx2_types::types::{MessageTypeDetails, TypeDetail};
 
-/// A version byte or a flag, alone or with what stands behind it where it is there.
+/// Returns the length of a version byte or a flag, with the value after it if there is one.
 fn optional<T: Copy>(value: Option<T>, length: usize) -> usize {
     match value {
         None => 1,
@@ -14,7 +14,8 @@ fn optional<T: Copy>(value: Option<T>, length: usize) -> usize {
     }
 }
 
-/// Keys and values, each behind its length, and the number of pairs.
+/// Returns the length of the attributes: the number of pairs, and keys and values, each after its
+/// length.
 fn attributes(attributes: &AttributeSet) -> usize {
     let mut sum: usize = 2;
     for pair in attributes.pairs() {
@@ -24,7 +25,7 @@ fn attributes(attributes: &AttributeSet) -> usize {
     sum
 }
 
-/// Variant, size, alignment, and the name behind its length.
+/// Returns the length of a type's details: variant, size, alignment, and the name after its length.
 fn detail(detail: &TypeDetail) -> usize {
     detail.type_name().len().saturating_add(19)
 }
@@ -35,7 +36,7 @@ fn message(message: &MessageTypeDetails) -> usize {
         .saturating_add(detail(&message.payload))
 }
 
-/// Four numbers, three ids and a deadline.
+/// Returns the length of the settings of events: four numbers, three ids and a deadline.
 fn event(settings: &event::StaticConfig) -> usize {
     optional::<Deadline>(settings.deadline, 24)
         .saturating_add(optional::<EventId>(settings.notifier_created_event, 8))
@@ -44,7 +45,8 @@ fn event(settings: &event::StaticConfig) -> usize {
         .saturating_add(32)
 }
 
-/// Six numbers and a byte of publish-subscribe, seven numbers and three bytes of request-response, and the types.
+/// Returns the length of a pattern's settings. Publish-subscribe has six numbers and a byte, and
+/// request-response has seven numbers and three bytes. Both also have their types.
 fn pattern(pattern: &MessagingPattern) -> usize {
     match pattern {
         MessagingPattern::Event(settings) => event(settings),
@@ -59,8 +61,8 @@ fn pattern(pattern: &MessagingPattern) -> usize {
     }
 }
 
-/// The length of the description's byte form. Besides what is counted part by part, there are 4 bytes of the magic,
-/// 20 of the hash, 2 of the name's length and the pattern's.
+/// Returns the length of the description's byte form. Besides the parts that are counted one by one,
+/// the form has 4 bytes of the magic, 20 of the hash, 2 of the name's length, and the pattern's byte.
 pub fn length_of(description: &StaticConfig) -> usize {
     optional::<u64>(description.creator(), 8)
         .saturating_add(description.name().as_str().len())

@@ -1,4 +1,4 @@
-//! Writing the byte form, part by part, at the end of what was written.
+//! Writes the byte form part by part, after the bytes that were written before.
 
 ghost use Rattle.std.specs.Prelude.{◌≡◌, ◌++◌, OnOk};
 ghost use Rattle.std.specs.List.{flat_map};
@@ -17,7 +17,7 @@ use iceoryx2_description::description::{MessagingPattern, StaticConfig};
 use iceoryx2_description::{event, publish_subscribe, request_response};
 use std::alloc::AllocError;
 
-/// The key, and then the value.
+/// Writes the key, and then the value.
 fn put_pair(out: &mut Vec<u8>, pair: &Attribute) -> Result<(), AllocError>
     ensures { OnOk result (out.new.items ≡ out.old.items ++ form.pair pair.now) }
 {
@@ -35,7 +35,7 @@ fn put_pairs(out: &mut Vec<u8>, pairs: &[Attribute]) -> Result<(), AllocError>
     Ok(())
 }
 
-/// How many there are, and then each of them.
+/// Writes the number of attributes, and then each of them.
 fn put_attributes(out: &mut Vec<u8>, attributes: &AttributeSet) -> Result<(), AllocError>
     ensures { OnOk result (out.new.items ≡ out.old.items ++ form.attributes attributes.now) }
 {
@@ -45,7 +45,7 @@ fn put_attributes(out: &mut Vec<u8>, attributes: &AttributeSet) -> Result<(), Al
     Ok(())
 }
 
-/// The pattern's byte, and the settings.
+/// Writes the pattern's byte, and the settings.
 fn put_event(out: &mut Vec<u8>, settings: &event::StaticConfig) -> Result<(), AllocError>
     ensures { OnOk result (out.new.items ≡ out.old.items ++ form.pattern (MessagingPattern.Event settings.now)) }
 {
@@ -61,7 +61,7 @@ fn put_event(out: &mut Vec<u8>, settings: &event::StaticConfig) -> Result<(), Al
     Ok(())
 }
 
-/// The pattern's byte, the settings, and the types of a message.
+/// Writes the pattern's byte, the settings, and the types of a message.
 fn put_publish_subscribe(
     out: &mut Vec<u8>,
     settings: &publish_subscribe::StaticConfig,
@@ -81,7 +81,7 @@ fn put_publish_subscribe(
     Ok(())
 }
 
-/// The pattern's byte, the settings, and the types of a request and of a response.
+/// Writes the pattern's byte, the settings, and the types of a request and of a response.
 fn put_request_response(
     out: &mut Vec<u8>,
     settings: &request_response::StaticConfig,
@@ -115,7 +115,7 @@ fn put_pattern(out: &mut Vec<u8>, pattern: &MessagingPattern) -> Result<(), Allo
     }
 }
 
-/// The version, and behind it the creator's id where there is one.
+/// Writes the version, and after it the creator's id if there is one.
 fn put_versioned(out: &mut Vec<u8>, creator: Option<u64>) -> Result<(), AllocError>
     ensures { OnOk result (out.new.items ≡ out.old.items ++ form.versioned creator) }
 {
@@ -129,7 +129,7 @@ fn put_versioned(out: &mut Vec<u8>, creator: Option<u64>) -> Result<(), AllocErr
     Ok(())
 }
 
-/// The whole byte form, behind what was written.
+/// Writes the whole byte form, after the bytes that were written before.
 pub fn put_description(out: &mut Vec<u8>, description: &StaticConfig) -> Result<(), AllocError>
     ensures form { OnOk result (out.new.items ≡ out.old.items ++ form.description description.now) }
     ensures limits { OnOk result (IsDescription description.now) }

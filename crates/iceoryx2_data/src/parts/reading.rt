@@ -1,7 +1,8 @@
-//! Reading single parts from left to right: each gives its value and the bytes after it.
+//! Reads single parts from left to right. Each function returns the part's value and the bytes after
+//! the part.
 //!
-//! Each answers `Malformed` where the bytes don't begin with such a part, and what copies a text
-//! `OutOfMemory` where the copy found no memory.
+//! Each function returns `Malformed` if the bytes don't begin with such a part. A function that copies
+//! a text returns `OutOfMemory` if there was no memory for the copy.
 
 ghost use Rattle.std.specs.Prelude.{◌≡◌, true, false, length, string_bytes};
 ghost use Rattle.std.specs.Prelude.{IfOk, MatchResult};
@@ -25,7 +26,7 @@ use std::fmt;
 /// Why bytes give no description.
 #[derive(Clone, Copy, Debug, PartialEq, Eq)]
 pub enum DecodeError {
-    /// They are the byte form of no description.
+    /// The bytes are the byte form of no description.
     Malformed,
     /// There was no memory for the description.
     OutOfMemory,
@@ -55,7 +56,7 @@ impl From<AllocError> for DecodeError {
     }
 }
 
-/// Two bytes, as a number.
+/// Reads two bytes as a number.
 pub fn u16_at(bytes: &[u8]) -> Result<(u16, &[u8]), DecodeError>
     ensures { IsReadBy (λ x. (x.0, x.1.now)) result (number_at w16 bytes.now) }
 {
@@ -67,7 +68,7 @@ pub fn u16_at(bytes: &[u8]) -> Result<(u16, &[u8]), DecodeError>
     Ok((number, rest))
 }
 
-/// Four bytes, as a number.
+/// Reads four bytes as a number.
 fn u32_at(bytes: &[u8]) -> Result<(u32, &[u8]), DecodeError>
     ensures { IsReadBy (λ x. (x.0, x.1.now)) result (number_at w32 bytes.now) }
 {
@@ -79,7 +80,7 @@ fn u32_at(bytes: &[u8]) -> Result<(u32, &[u8]), DecodeError>
     Ok((number, rest))
 }
 
-/// Eight bytes, as a number.
+/// Reads eight bytes as a number.
 pub fn u64_at(bytes: &[u8]) -> Result<(u64, &[u8]), DecodeError>
     ensures { IsReadBy (λ x. (x.0, x.1.now)) result (number_at w64 bytes.now) }
 {
@@ -93,7 +94,7 @@ pub fn u64_at(bytes: &[u8]) -> Result<(u64, &[u8]), DecodeError>
     Ok((number, rest))
 }
 
-/// So many bytes.
+/// Reads `len` bytes.
 pub fn bytes_of(len: usize, bytes: &[u8]) -> Result<(&[u8], &[u8]), DecodeError>
     ensures parts { IsReadBy (λ x. (x.0.now, x.1.now)) result (bytes_at len bytes.now) }
     ensures front { IfOk result (λ x. length x.0.now ≡ len) }
@@ -104,7 +105,7 @@ pub fn bytes_of(len: usize, bytes: &[u8]) -> Result<(&[u8], &[u8]), DecodeError>
     Ok(bytes.split_at(len))
 }
 
-/// Just these bytes.
+/// Reads exactly the bytes of `literal`.
 #[tactic(auto, unfolding(crate::specs::PartReading::literal_at))]
 pub fn literal_of<'a>(literal: &[u8], bytes: &'a [u8]) -> Result<&'a [u8], DecodeError>
     ensures { IsReadBy (λ x. (tt, x.now)) result (literal_at literal.now bytes.now) }
@@ -116,7 +117,7 @@ pub fn literal_of<'a>(literal: &[u8], bytes: &'a [u8]) -> Result<&'a [u8], Decod
     Ok(rest)
 }
 
-/// The bytes as a text, if they are UTF-8.
+/// Returns the bytes as a text, if they are UTF-8.
 #[tactic(auto, using(iceoryx2_description::proofs::Utf8::is_text, iceoryx2_description::proofs::Utf8::not_utf8))]
 fn utf8_of(bytes: &[u8]) -> Result<&str, DecodeError>
     ensures { MatchResult result
@@ -129,7 +130,7 @@ fn utf8_of(bytes: &[u8]) -> Result<&str, DecodeError>
     }
 }
 
-/// A text of so many bytes, where it stands.
+/// Reads a text of `lo` to `hi` bytes, without a copy.
 #[tactic(auto, unfolding(crate::specs::PartReading::text_at))]
 fn str_of(lo: usize, hi: usize, bytes: &[u8]) -> Result<(&str, &[u8]), DecodeError>
     ensures text { IsReadBy (λ x. (x.0.now, x.1.now)) result (text_at lo hi bytes.now) }
@@ -147,7 +148,7 @@ fn str_of(lo: usize, hi: usize, bytes: &[u8]) -> Result<(&str, &[u8]), DecodeErr
     Ok((utf8_of(front)?, rest))
 }
 
-/// A copy of a text of so many bytes.
+/// Reads a text of `lo` to `hi` bytes, and copies it.
 pub fn text_of(
     alloc: Global,
     lo: usize,
@@ -161,7 +162,7 @@ pub fn text_of(
     Ok((String::from_str(alloc, text)?, rest))
 }
 
-/// A byte that is 0 or 1.
+/// Reads a byte that is 0 or 1.
 #[tactic(auto, unfolding(crate::specs::PartReading::truth_at))]
 pub fn truth_of(bytes: &[u8]) -> Result<(bool, &[u8]), DecodeError>
     ensures { IsReadBy (λ x. (x.0, x.1.now)) result (truth_at bytes.now) }
@@ -174,7 +175,7 @@ pub fn truth_of(bytes: &[u8]) -> Result<(bool, &[u8]), DecodeError>
     }
 }
 
-/// The number of an event, where there is one.
+/// Reads the number of an event, if there is one.
 #[tactic(auto, unfolding(crate::specs::PartReading::option_at))]
 pub fn id_of(bytes: &[u8]) -> Result<(Option<EventId>, &[u8]), DecodeError>
     ensures { IsReadBy (λ x. (x.0, x.1.now)) result (option_at (number_at w64) bytes.now) }
@@ -235,7 +236,7 @@ fn deadline_of(bytes: &[u8]) -> Result<(Deadline, &[u8]), DecodeError>
     ))
 }
 
-/// A deadline, where there is one.
+/// Reads a deadline, if there is one.
 #[tactic(auto, unfolding(crate::specs::PartReading::option_at))]
 pub fn optional_deadline_of(bytes: &[u8]) -> Result<(Option<Deadline>, &[u8]), DecodeError>
     ensures { IsReadBy (λ x. (x.0, x.1.now)) result (option_at deadline_at bytes.now) }
@@ -251,7 +252,7 @@ pub fn optional_deadline_of(bytes: &[u8]) -> Result<(Option<Deadline>, &[u8]), D
     }
 }
 
-/// Whether it is one value or a number of them: a byte that is 0 or 1.
+/// Reads whether a message holds one value or a number of them: a byte that is 0 or 1.
 #[tactic(auto, unfolding(crate::specs::PartReading::variant_at))]
 fn variant_of(bytes: &[u8]) -> Result<(TypeVariant, &[u8]), DecodeError>
     ensures { IsReadBy (λ x. (x.0, x.1.now)) result (variant_at bytes.now) }
@@ -264,8 +265,8 @@ fn variant_of(bytes: &[u8]) -> Result<(TypeVariant, &[u8]), DecodeError>
     }
 }
 
-/// What is told of a type. `Malformed` also where its name has no byte or more than 256, or its
-/// alignment is no power of two.
+/// Reads the details of a type. `Malformed` also if the type's name does not have 1 to 256 bytes, or
+/// its alignment is not a power of two.
 #[tactic(auto, unfolding(crate::specs::PartReading::detail_at))]
 fn detail_of(alloc: Global, bytes: &[u8]) -> Result<(TypeDetail, &[u8]), DecodeError>
     ensures { IsReadBy (λ x. (x.0, x.1.now)) result (detail_at bytes.now) }
@@ -284,7 +285,7 @@ fn detail_of(alloc: Global, bytes: &[u8]) -> Result<(TypeDetail, &[u8]), DecodeE
     }
 }
 
-/// The three types of a message: header, user header and payload.
+/// Reads the three types of a message: header, user header and payload.
 #[tactic(auto, unfolding(crate::specs::PartReading::message_at))]
 pub fn message_of(alloc: Global, bytes: &[u8]) -> Result<(MessageTypeDetails, &[u8]), DecodeError>
     ensures { IsReadBy (λ x. (x.0, x.1.now)) result (message_at bytes.now) }

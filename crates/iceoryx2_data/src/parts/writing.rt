@@ -1,4 +1,5 @@
-//! Writing single parts, at the end of what was written. Each fails where that found no memory.
+//! Writes single parts after the bytes that were written before. Each function fails if there was no
+//! memory for the part.
 
 ghost use Rattle.std.specs.Prelude.{◌≡◌, ◌<◌, ◌^◌, ◌++◌, length, OnOk};
 ghost use Rattle.iceoryx2_data.specs.PartForm as form;
@@ -8,14 +9,14 @@ use iceoryx2_description::time::{Duration, Time};
 use iceoryx2_types::types::{MessageTypeDetails, TypeDetail, TypeVariant};
 use std::alloc::AllocError;
 
-/// Eight bytes.
+/// Writes a number as eight bytes.
 pub fn put_number(out: &mut Vec<u8>, number: u64) -> Result<(), AllocError>
     ensures { OnOk result (out.new.items ≡ out.old.items ++ form.number number) }
 {
     out.extend_from_slice(&number.to_be_bytes())
 }
 
-/// The length as two bytes, and the bytes.
+/// Writes the text's length as two bytes, and then its bytes.
 pub fn put_text(out: &mut Vec<u8>, text: &str) -> Result<(), AllocError>
     requires { length text.now < 2 ^ 16 }
     ensures { OnOk result (out.new.items ≡ out.old.items ++ form.text text.now) }
@@ -25,7 +26,7 @@ pub fn put_text(out: &mut Vec<u8>, text: &str) -> Result<(), AllocError>
     Ok(())
 }
 
-/// A byte: 0 or 1.
+/// Writes a byte that is 0 or 1.
 pub fn put_truth(out: &mut Vec<u8>, truth: bool) -> Result<(), AllocError>
     ensures { OnOk result (out.new.items ≡ out.old.items ++ form.truth truth) }
 {
@@ -33,7 +34,7 @@ pub fn put_truth(out: &mut Vec<u8>, truth: bool) -> Result<(), AllocError>
     Ok(())
 }
 
-/// A flag, and the number where there is one.
+/// Writes a flag, and the number if there is one.
 pub fn put_id(out: &mut Vec<u8>, id: Option<EventId>) -> Result<(), AllocError>
     ensures { OnOk result (out.new.items ≡ out.old.items ++ form.option form.number id) }
 {
@@ -71,7 +72,7 @@ fn put_deadline(out: &mut Vec<u8>, deadline: Deadline) -> Result<(), AllocError>
     Ok(())
 }
 
-/// A flag, and the deadline where there is one.
+/// Writes a flag, and the deadline if there is one.
 pub fn put_optional_deadline(
     out: &mut Vec<u8>,
     deadline: Option<Deadline>,
@@ -108,7 +109,7 @@ fn put_detail(out: &mut Vec<u8>, detail: &TypeDetail) -> Result<(), AllocError>
     Ok(())
 }
 
-/// The three types of a message: header, user header and payload.
+/// Writes the three types of a message: header, user header and payload.
 pub fn put_message(out: &mut Vec<u8>, message: &MessageTypeDetails) -> Result<(), AllocError>
     ensures { OnOk result (out.new.items ≡ out.old.items ++ form.message message.now) }
 {

@@ -38,15 +38,15 @@ pub enum EventOpenError {
     IncompatibleNotifierDeadEvent,
     /// Somebody is creating the service.
     HangsInCreation,
-    /// The service is for fewer notifiers.
+    /// The service has room for fewer notifiers.
     DoesNotSupportRequestedAmountOfNotifiers,
-    /// The service is for fewer listeners.
+    /// The service has room for fewer listeners.
     DoesNotSupportRequestedAmountOfListeners,
     /// The service's greatest event number is smaller.
     DoesNotSupportRequestedMaxEventId,
-    /// The service is for fewer nodes.
+    /// The service has room for fewer nodes.
     DoesNotSupportRequestedAmountOfNodes,
-    /// As many nodes as the service is for have opened it.
+    /// As many nodes as the service has room for have opened it.
     ExceedsMaxNumberOfNodes,
     /// The last node has left, and the service is being removed.
     IsMarkedForDestruction,
@@ -55,7 +55,7 @@ pub enum EventOpenError {
 }
 
 impl EventOpenError {
-    /// The variant's name.
+    /// Returns the variant's name.
     pub fn name(&self) -> &'static str
         ensures { result.now ≡ reason_name (event_open_reason self.now) }
     {
@@ -92,7 +92,7 @@ pub enum EventCreateError {
     InternalFailure,
     /// Somebody else is creating the service.
     IsBeingCreatedByAnotherInstance,
-    /// There is such a service, maybe of another pattern.
+    /// There is such a service, perhaps of another pattern.
     AlreadyExists,
     /// Somebody had begun to create the service before the call looked.
     HangsInCreation,
@@ -103,7 +103,7 @@ pub enum EventCreateError {
 }
 
 impl EventCreateError {
-    /// The variant's name.
+    /// Returns the variant's name.
     pub fn name(&self) -> &'static str
         ensures { result.now ≡ reason_name (event_create_reason self.now) }
     {
@@ -133,12 +133,12 @@ impl From<ServiceState> for EventCreateError {
 /// Why a service of events is neither opened nor created.
 #[derive(Debug, Clone, Copy, PartialEq, Eq)]
 pub enum EventOpenOrCreateError {
-    /// The round's own look met this fault, or the service was there and isn't opened.
+    /// The round's own look met this fault, or the service was there and the open failed.
     EventOpenError(EventOpenError),
-    /// The service wasn't there and isn't created.
+    /// The service wasn't there and the create failed.
     EventCreateError(EventCreateError),
-    /// In each of six rounds the service came or went between the look and what followed it, or was
-    /// in a state that may pass.
+    /// In each of six rounds the service came or went between the look and the open or create after
+    /// it, or was in a state that may pass.
     SystemInFlux,
 }
 
@@ -164,7 +164,7 @@ impl fmt::Display for EventOpenOrCreateError {
 
 impl Error for EventOpenOrCreateError {}
 
-/// A look's outcome is an error of the open.
+/// Turns a look's outcome into an error of the open.
 impl From<ServiceState> for EventOpenOrCreateError {
     ghost from_gives = { λ state outcome.
         outcome ≡ either.EventOpenError (event_open_error_of_state state) };

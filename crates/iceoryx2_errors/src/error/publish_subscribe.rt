@@ -12,13 +12,13 @@ use crate::refusal::Refusal;
 use std::error::Error;
 use std::fmt;
 
-/// What a look of a builder of publish-subscribe finds wrong.
+/// The faults that a look of a builder of publish-subscribe finds.
 /// Hidden in iceoryx2.
 #[derive(Debug, Clone, Copy, PartialEq, Eq, Hash)]
 pub enum ServiceAvailabilityState {
-    /// What may be wrong whatever the pattern.
+    /// A fault that is possible with any pattern.
     ServiceState(ServiceState),
-    /// The builder's message isn't compatible to the service's.
+    /// The builder's message isn't compatible with the service's.
     IncompatibleTypes,
 }
 
@@ -29,7 +29,7 @@ pub enum PublishSubscribeOpenError {
     DoesNotExist,
     /// The node can't be tagged, or there is no ticket left.
     InternalFailure,
-    /// The builder's message isn't compatible to the service's.
+    /// The builder's message isn't compatible with the service's.
     IncompatibleTypes,
     /// The service is of another pattern.
     IncompatibleMessagingPattern,
@@ -41,13 +41,13 @@ pub enum PublishSubscribeOpenError {
     DoesNotSupportRequestedMinHistorySize,
     /// The service's subscribers may borrow fewer samples.
     DoesNotSupportRequestedMinSubscriberBorrowedSamples,
-    /// The service is for fewer publishers.
+    /// The service has room for fewer publishers.
     DoesNotSupportRequestedAmountOfPublishers,
-    /// The service is for fewer subscribers.
+    /// The service has room for fewer subscribers.
     DoesNotSupportRequestedAmountOfSubscribers,
-    /// The service is for fewer nodes.
+    /// The service has room for fewer nodes.
     DoesNotSupportRequestedAmountOfNodes,
-    /// The service overflows safely and is required not to, or the other way round.
+    /// The service overflows safely although it is required not to, or the other way round.
     IncompatibleOverflowBehavior,
     /// The service may not be read.
     InsufficientPermissions,
@@ -56,7 +56,7 @@ pub enum PublishSubscribeOpenError {
     ServiceInCorruptedState,
     /// Somebody is creating the service.
     HangsInCreation,
-    /// As many nodes as the service is for have opened it.
+    /// As many nodes as the service has room for have opened it.
     ExceedsMaxNumberOfNodes,
     /// The last node has left, and the service is being removed.
     IsMarkedForDestruction,
@@ -65,7 +65,7 @@ pub enum PublishSubscribeOpenError {
 }
 
 impl PublishSubscribeOpenError {
-    /// The variant's name.
+    /// Returns the variant's name.
     pub fn name(&self) -> &'static str
         ensures { result.now ≡ reason_name (publish_subscribe_open_reason self.now) }
     {
@@ -106,9 +106,9 @@ pub enum PublishSubscribeCreateError {
     /// The storage is at fault, or the node is registered at a service that isn't there, or an
     /// earlier segment can't be cleared away, or the description can't be published.
     ServiceInCorruptedState,
-    /// Without safe overflow subscribers would buffer fewer samples than the history has.
+    /// Without safe overflow, subscribers would buffer fewer samples than the history has.
     SubscriberBufferMustBeLargerThanHistorySize,
-    /// There is such a service, maybe of another pattern or of types that are not compatible.
+    /// There is such a service, perhaps of another pattern or of types that are not compatible.
     AlreadyExists,
     /// The service may not be read, or not be made.
     InsufficientPermissions,
@@ -123,7 +123,7 @@ pub enum PublishSubscribeCreateError {
 }
 
 impl PublishSubscribeCreateError {
-    /// The variant's name.
+    /// Returns the variant's name.
     pub fn name(&self) -> &'static str
         ensures { result.now ≡ reason_name (publish_subscribe_create_reason self.now) }
     {
@@ -161,12 +161,12 @@ impl From<ServiceAvailabilityState> for PublishSubscribeCreateError {
 /// Why a service of publish-subscribe is neither opened nor created.
 #[derive(Debug, Clone, Copy, PartialEq, Eq, Hash)]
 pub enum PublishSubscribeOpenOrCreateError {
-    /// The round's own look met this fault, or the service was there and isn't opened.
+    /// The round's own look met this fault, or the service was there and the open failed.
     PublishSubscribeOpenError(PublishSubscribeOpenError),
-    /// The service wasn't there and isn't created.
+    /// The service wasn't there and the create failed.
     PublishSubscribeCreateError(PublishSubscribeCreateError),
-    /// In each of six rounds the service came or went between the look and what followed it, or was
-    /// in a state that may pass.
+    /// In each of six rounds the service came or went between the look and the open or create after
+    /// it, or was in a state that may pass.
     SystemInFlux,
 }
 
@@ -198,7 +198,7 @@ impl fmt::Display for PublishSubscribeOpenOrCreateError {
 
 impl Error for PublishSubscribeOpenOrCreateError {}
 
-/// A look's outcome is an error of the open.
+/// Turns a look's outcome into an error of the open.
 impl From<ServiceAvailabilityState> for PublishSubscribeOpenOrCreateError {
     ghost from_gives = { λ state outcome.
         outcome ≡ either.PublishSubscribeOpenError (publish_subscribe_open_error_of_state state) };

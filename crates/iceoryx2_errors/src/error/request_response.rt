@@ -12,15 +12,15 @@ use crate::refusal::Refusal;
 use std::error::Error;
 use std::fmt;
 
-/// What a look of a builder of request-response finds wrong.
+/// The faults that a look of a builder of request-response finds.
 /// Hidden in iceoryx2.
 #[derive(Debug, Clone, Copy, PartialEq, Eq, Hash)]
 pub enum ServiceAvailabilityState {
-    /// What may be wrong whatever the pattern.
+    /// A fault that is possible with any pattern.
     ServiceState(ServiceState),
-    /// The builder's request isn't compatible to the service's.
+    /// The builder's request isn't compatible with the service's.
     IncompatibleRequestType,
-    /// The builder's response isn't compatible to the service's, and its request is.
+    /// The builder's request is compatible with the service's, and its response isn't.
     IncompatibleResponseType,
 }
 
@@ -35,32 +35,33 @@ pub enum RequestResponseOpenError {
     DoesNotSupportRequestedAmountOfActiveRequestsPerClient,
     /// The service buffers fewer responses.
     DoesNotSupportRequestedResponseBufferSize,
-    /// The service is for fewer servers.
+    /// The service has room for fewer servers.
     DoesNotSupportRequestedAmountOfServers,
-    /// The service is for fewer clients.
+    /// The service has room for fewer clients.
     DoesNotSupportRequestedAmountOfClients,
-    /// The service is for fewer nodes.
+    /// The service has room for fewer nodes.
     DoesNotSupportRequestedAmountOfNodes,
-    /// The service's clients may borrow fewer responses of one request.
+    /// The service's clients may borrow fewer responses to one request.
     DoesNotSupportRequestedAmountOfBorrowedResponsesPerPendingResponse,
-    /// As many nodes as the service is for have opened it.
+    /// As many nodes as the service has room for have opened it.
     ExceedsMaxNumberOfNodes,
     /// Somebody is creating the service.
     HangsInCreation,
-    /// The builder's request isn't compatible to the service's.
+    /// The builder's request isn't compatible with the service's.
     IncompatibleRequestType,
-    /// The builder's response isn't compatible to the service's.
+    /// The builder's response isn't compatible with the service's.
     IncompatibleResponseType,
     /// The service lacks a required attribute.
     IncompatibleAttributes,
     /// The service is of another pattern.
     IncompatibleMessagingPattern,
-    /// The service overflows safely with requests and is required not to, or the other way round.
+    /// The service overflows safely with requests although it is required not to, or the other way
+    /// round.
     IncompatibleOverflowBehaviorForRequests,
-    /// The service overflows safely with responses and is required not to, or the other way
+    /// The service overflows safely with responses although it is required not to, or the other way
     /// round.
     IncompatibleOverflowBehaviorForResponses,
-    /// The service takes requests whose responses nobody awaits and is required not to, or the
+    /// The service takes requests whose responses nobody awaits although it is required not to, or the
     /// other way round.
     IncompatibleBehaviorForFireAndForgetRequests,
     /// The service may not be read.
@@ -77,7 +78,7 @@ pub enum RequestResponseOpenError {
 }
 
 impl RequestResponseOpenError {
-    /// The variant's name.
+    /// Returns the variant's name.
     pub fn name(&self) -> &'static str
         ensures { result.now ≡ reason_name (request_response_open_reason self.now) }
     {
@@ -117,7 +118,7 @@ impl From<ServiceAvailabilityState> for RequestResponseOpenError {
 /// Why a service of request-response isn't created.
 #[derive(Debug, Clone, Copy, PartialEq, Eq, Hash)]
 pub enum RequestResponseCreateError {
-    /// There is such a service, maybe of another pattern or of types that are not compatible.
+    /// There is such a service, perhaps of another pattern or of types that are not compatible.
     AlreadyExists,
     /// The storage is at fault.
     InternalFailure,
@@ -135,7 +136,7 @@ pub enum RequestResponseCreateError {
 }
 
 impl RequestResponseCreateError {
-    /// The variant's name.
+    /// Returns the variant's name.
     pub fn name(&self) -> &'static str
         ensures { result.now ≡ reason_name (request_response_create_reason self.now) }
     {
@@ -175,12 +176,12 @@ impl From<ServiceAvailabilityState> for RequestResponseCreateError {
 /// Why a service of request-response is neither opened nor created.
 #[derive(Debug, Clone, Copy, PartialEq, Eq)]
 pub enum RequestResponseOpenOrCreateError {
-    /// The round's own look met this fault, or the service was there and isn't opened.
+    /// The round's own look met this fault, or the service was there and the open failed.
     RequestResponseOpenError(RequestResponseOpenError),
-    /// The service wasn't there and isn't created.
+    /// The service wasn't there and the create failed.
     RequestResponseCreateError(RequestResponseCreateError),
-    /// In each of six rounds the service came or went between the look and what followed it, or was
-    /// in a state that may pass.
+    /// In each of six rounds the service came or went between the look and the open or create after
+    /// it, or was in a state that may pass.
     SystemInFlux,
 }
 
@@ -212,7 +213,7 @@ impl fmt::Display for RequestResponseOpenOrCreateError {
 
 impl Error for RequestResponseOpenOrCreateError {}
 
-/// A look's outcome is an error of the open.
+/// Turns a look's outcome into an error of the open.
 impl From<ServiceAvailabilityState> for RequestResponseOpenOrCreateError {
     ghost from_gives = { λ state outcome.
         outcome ≡ either.RequestResponseOpenError (request_response_open_error_of_state state) };

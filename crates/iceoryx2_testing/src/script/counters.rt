@@ -1,9 +1,9 @@
-//! How often a storage was asked.
+//! The numbers of calls of a storage.
 
 ghost use Rattle.std.specs.Prelude.{◌≡◌};
 ghost use Rattle.iceoryx2_access.specs.Counts.{count_up};
 
-/// How often three of the accesses were asked for. Each count stops at `u64::MAX`.
+/// The numbers of calls of three of the accesses. Each number stops at `u64::MAX`.
 #[derive(Clone, Copy, Debug, PartialEq, Eq)]
 pub struct Counters {
     /// Calls of `exists`.
@@ -15,7 +15,7 @@ pub struct Counters {
 }
 
 impl Counters {
-    /// Nothing was asked for.
+    /// No calls.
     pub const NONE: Counters = Counters {
         looks: 0,
         openings: 0,

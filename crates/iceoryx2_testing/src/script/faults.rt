@@ -12,9 +12,9 @@ use iceoryx2_access::storage::{
 use iceoryx2_description::description::{ServiceHash, StaticConfig};
 use std::marker::{Model, PhantomData};
 
-/// A storage that refuses chosen accesses of another. Accesses are counted from 1, refused ones too; one
-/// past `u64::MAX` counts as the `u64::MAX`-th. A refused access answers its general fault and doesn't
-/// reach the storage inside; any other is an access of that storage.
+/// A storage that refuses chosen accesses of another storage. Accesses are counted from 1, refused ones
+/// too. An access past the `u64::MAX`-th counts as the `u64::MAX`-th. A refused access returns its
+/// general fault and doesn't reach the storage inside. Any other access is one of that storage.
 #[derive(Drop)]
 pub struct Faulty<S> {
     inner: S,
@@ -40,7 +40,7 @@ impl<S> Faulty<S> {
     ghost use Rattle.std.specs.Borrow.{sem};
     ghost use Rattle.iceoryx2_testing.specs.FaultyLends.{lends_inner};
 
-    /// The storage `inner`, with the numbers of the accesses that are refused.
+    /// Returns the storage `inner`, with the numbers of the accesses that are refused.
     pub fn new(inner: S, refused: Vec<u64>) -> Faulty<S>
         ensures { result ≡ record {
           inner = inner;
@@ -57,14 +57,14 @@ impl<S> Faulty<S> {
         }
     }
 
-    /// The storage inside.
+    /// Returns the storage inside.
     pub fn inner(&self) -> &S
         ensures { result.now ≡ self.now.inner }
     {
         &self.inner
     }
 
-    /// The storage inside, for writing. What is done to it that way isn't counted.
+    /// Returns the storage inside, for writing. Anything that is done to it that way isn't counted.
     pub fn inner_mut(&mut self) -> &mut S
         ensures* writes_back { sem 𝓛 (lends_inner S.row self.entry result) }
         ensures value { result.now ≡ self.old.inner }
@@ -72,7 +72,7 @@ impl<S> Faulty<S> {
         &mut self.inner
     }
 
-    /// The storage inside, alone.
+    /// Returns the storage inside, alone.
     pub fn into_inner(self) -> S
         ensures { result ≡ self.inner }
     {
@@ -85,35 +85,36 @@ impl<S> Faulty<S> {
         inner
     }
 
-    /// How often an access was called, the refused ones among them. Stops at `u64::MAX`.
+    /// Returns the number of accesses that were called, the refused ones among them. It stops at
+    /// `u64::MAX`.
     pub fn accesses(&self) -> u64
         ensures { result ≡ self.now.accesses }
     {
         self.accesses
     }
 
-    /// How often `exists` was called. Stops at `u64::MAX`.
+    /// Returns the number of calls of `exists`. It stops at `u64::MAX`.
     pub fn looks(&self) -> u64
         ensures { result ≡ self.now.counters.looks }
     {
         self.counters.looks
     }
 
-    /// How often `open_segment` was called. Stops at `u64::MAX`.
+    /// Returns the number of calls of `open_segment`. It stops at `u64::MAX`.
     pub fn openings(&self) -> u64
         ensures { result ≡ self.now.counters.openings }
     {
         self.counters.openings
     }
 
-    /// How often `make_segment` was called. Stops at `u64::MAX`.
+    /// Returns the number of calls of `make_segment`. It stops at `u64::MAX`.
     pub fn makings(&self) -> u64
         ensures { result ≡ self.now.counters.makings }
     {
         self.counters.makings
     }
 
-    /// Counts an access, and says whether it is refused.
+    /// Counts an access, and returns whether it is refused.
     fn count(&mut self) -> bool
         ensures counted { self.new ≡ record self.old { accesses = count_up self.old.accesses } }
         ensures refused { result ≡ is_refused self.new.accesses self.old.refused }

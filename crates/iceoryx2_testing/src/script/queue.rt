@@ -6,8 +6,8 @@ use super::Answer;
 use std::marker::Model;
 use std::mem;
 
-/// Answers in order, of which the first ones were taken. What was taken leaves an answer without memory
-/// in its place, so taking moves nothing else and takes no memory.
+/// Answers in order, of which the first ones were taken. An answer that is taken leaves one without
+/// memory in its place, so taking moves nothing else and takes no memory.
 #[derive(Drop)]
 pub struct Queue {
     answers: Vec<Answer>,
@@ -44,7 +44,7 @@ impl Queue {
         self.answers.get(self.taken)
     }
 
-    /// Takes the front answer, where one is left.
+    /// Takes the first answer, if one is left.
     pub(super) fn skip(&mut self)
         ensures { self.new ≡ drop 1 self.old }
     {
@@ -53,7 +53,7 @@ impl Queue {
         }
     }
 
-    /// The front answer, which is then taken.
+    /// Takes the first answer, and returns it.
     pub(super) fn pop(&mut self) -> Option<Answer>
         ensures { MatchOption result ((self.old ≡ []) × (self.new ≡ []))
             (λ front. self.old ≡ front ∷ self.new) }

@@ -1,4 +1,4 @@
-//! What is kept of an access.
+//! The record of an access.
 
 ghost use Rattle.std.specs.Prelude.{◌≡◌, Some};
 ghost use Rattle.iceoryx2_testing.specs.Texts.{access_name, answer_text, entry_text, shown_text};
@@ -14,15 +14,15 @@ use iceoryx2_access::storage::{
 use iceoryx2_description::description::ServiceHash;
 use std::fmt;
 
-/// What is kept of a description that was fetched: the service's number, and how many bytes came.
+/// The record of a description that was fetched: the service's number, and the number of bytes.
 #[derive(Clone, Copy, Debug, PartialEq, Eq)]
 pub struct Fetched {
     pub number: u64,
     pub length: usize,
 }
 
-/// An access: what was asked, and what the storage answered. It holds no memory, so the bytes that
-/// were fetched and the description that was published aren't in it.
+/// An access with its arguments and the storage's answer. It holds no memory, so it leaves out the
+/// bytes that were fetched and the description that was published.
 #[derive(Clone, Copy, Debug, PartialEq, Eq)]
 pub enum TracedAccess {
     Exists {
@@ -96,7 +96,7 @@ pub enum TracedAccess {
 }
 
 impl TracedAccess {
-    /// The name of the access that was made, as the trait `Storage` calls it.
+    /// Returns the name of the access that was made, as the trait `Storage` calls it.
     pub fn access(&self) -> &'static str
         ensures { result.now ≡ access_name self.now }
     {
@@ -116,7 +116,7 @@ impl TracedAccess {
         }
     }
 
-    /// What was answered.
+    /// Returns the answer.
     fn shown(&self) -> ShownAnswer
         ensures { shown_text result ≡ answer_text self.now }
     {
@@ -137,8 +137,9 @@ impl TracedAccess {
     }
 }
 
-/// The access and its answer, as `exists No`, `fetch 0 (67 bytes)`, `lock Creation` and `publish Ok(3)`.
-/// A service's number stands alone, and a ticket in `Ok(..)`; what answers nothing says `Ok`.
+/// Writes the access and its answer, as `exists No`, `fetch 0 (67 bytes)`, `lock Creation` and
+/// `publish Ok(3)`. A service's number is alone, and a ticket is in `Ok(..)`. An access that answers
+/// nothing says `Ok`.
 impl fmt::Display for TracedAccess {
     ghost output = { λ entry. Some (entry_text entry) };
 

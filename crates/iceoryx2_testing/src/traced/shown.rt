@@ -31,10 +31,10 @@ macro_rules! named {
     };
 }
 
-/// What an access answered, as its text tells it.
+/// The answer of an access, as its text tells it.
 #[derive(Clone, Copy)]
 pub(super) enum ShownAnswer {
-    /// An answer, or why there is none, by its name.
+    /// The name of an answer, or of the error.
     Name(&'static str),
     /// The number of a service.
     Number(u64),

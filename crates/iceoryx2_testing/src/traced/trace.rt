@@ -1,4 +1,4 @@
-//! The latest traced accesses, and how many there were.
+//! The latest traced accesses, and the number of all.
 
 ghost use Rattle.std.specs.Prelude.{◌≡◌, ◌≤◌, ◌++◌, ◌∷◌, ◌↔◌, IsTrue, [], IfOk, length};
 ghost use Rattle.std.specs.Slice.{IsItemAt};
@@ -10,7 +10,7 @@ use std::alloc::{AllocError, Global};
 use std::collections::VecDeque;
 use std::marker::Model;
 
-/// The latest traced accesses, oldest first, for which there is room from the beginning.
+/// The latest traced accesses, oldest first. The room for them is there from the beginning.
 #[derive(Drop)]
 pub struct Trace {
     // its capacity is the room
@@ -42,7 +42,7 @@ impl Trace {
         Ok(Trace { entries, total: 0 })
     }
 
-    /// Keeps a traced access, and forgets the oldest one where there is no room for both.
+    /// Keeps a traced access, and forgets the oldest one if there is no room for both.
     pub(super) fn push(&mut self, entry: TracedAccess)
         ensures { self.new ≡ record self.old {
           entries = latest self.old.room (self.old.entries ++ entry ∷ []);

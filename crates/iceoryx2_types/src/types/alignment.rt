@@ -26,7 +26,7 @@ impl Model for Alignment {
 }
 
 impl Alignment {
-    /// This alignment, or `None` unless it is a power of two.
+    /// Returns the alignment of this many bytes, or `None` if the number is not a power of two.
     pub fn new(value: u64) -> Option<Alignment>
         ensures value { IfSome result (λ alignment. alignment ≡ value) }
         ensures limit { MatchOption result (IsAlignment value → ⊥) (λ _. IsAlignment value) }
@@ -38,7 +38,7 @@ impl Alignment {
         }
     }
 
-    /// The alignment that a type says of itself.
+    /// Returns the alignment that a type states.
     pub(super) fn of_type<T: ZeroCopySend>() -> Alignment
         ensures { result ≡ T.detail.alignment }
     {
@@ -47,7 +47,7 @@ impl Alignment {
         }
     }
 
-    /// How many bytes.
+    /// Returns the alignment in bytes.
     pub fn value(&self) -> u64
         ensures value { result ≡ self.now }
         ensures limit { IsAlignment self.now }

@@ -1,4 +1,4 @@
-//! What is told of a type.
+//! The details of a type.
 
 ghost use Rattle.std.specs.Prelude.{◌≡◌, ◌<◌, ◌^◌, ◌↔◌, Err, IfOk, IsTrue, string_bytes};
 ghost use Rattle.iceoryx2_types.specs.Types.{HasNameLength, IsAlignment, IsDetail, IsTypeName};
@@ -27,7 +27,7 @@ impl Model for TypeName {
 }
 
 impl TypeName {
-    /// The name of a text that has its length already.
+    /// Returns the text as a name. The text's length is already within the limits.
     fn from_text(text: String) -> TypeName
         requires { IsTypeName (string_bytes text) }
         ensures { result ≡ string_bytes text }
@@ -35,7 +35,7 @@ impl TypeName {
         TypeName { text }
     }
 
-    /// The name as a text.
+    /// Returns the name as a text.
     fn as_str(&self) -> &str
         ensures value { result.now ≡ self.now }
         ensures limits { IsTypeName self.now }
@@ -86,8 +86,9 @@ struct Fields {
     alignment: Alignment,
 }
 
-/// What is known of a type: whether a message holds one value or a number of them, and the name, the
-/// size and the alignment of one. It is kept in memory of its own, so that what holds it stays small.
+/// The details of a type: whether a message holds one value or a number of them, and the name, the size
+/// and the alignment of one value. The details are in memory of their own, so that a value that holds
+/// them stays small.
 #[derive(Debug)]
 pub struct TypeDetail {
     fields: Box<Fields>,
@@ -113,9 +114,10 @@ impl Model for TypeDetail {
 }
 
 impl TypeDetail {
-    /// The details of a type whose name has 1 to 256 bytes, else `NameLength`, and whose alignment
-    /// in bytes is a power of two, else `Alignment`; `OutOfMemory` where the copy of the name found
-    /// no memory. They are tested in this order. The size is in bytes, and any.
+    /// Returns the details of a type. The size is in bytes, and may be any number. The errors, tested
+    /// in this order: `NameLength` if the name does not have 1 to 256 bytes, `Alignment` if the
+    /// alignment in bytes is not a power of two, and `OutOfMemory` if there was no memory for a copy of
+    /// the name.
     #[tactic(auto, using(crate::proofs::Utf8::is_text))]
     pub fn new(
         alloc: Global,
@@ -147,7 +149,7 @@ impl TypeDetail {
         }
     }
 
-    /// The details that a type says of itself, of one value or a number of them.
+    /// Returns the details that a type states, of one value or a number of them.
     #[tactic(auto, using(crate::proofs::Utf8::is_text))]
     pub(super) fn from_type<T: ZeroCopySend>(
         alloc: Global,
@@ -161,7 +163,7 @@ impl TypeDetail {
         TypeDetail::from_parts(alloc, variant, type_name, T::size(), alignment)
     }
 
-    /// The details of parts that are within their limits.
+    /// Returns the details with these parts, which are within their limits.
     fn from_parts(
         alloc: Global,
         variant: TypeVariant,
@@ -186,7 +188,7 @@ impl TypeDetail {
         Ok(TypeDetail { fields })
     }
 
-    /// Whether a message holds one value or a number of them.
+    /// Returns whether a message holds one value or a number of them.
     pub fn variant(&self) -> TypeVariant
         ensures value { result ≡ self.now.variant }
         ensures limits { IsDetail self.now }
@@ -194,7 +196,7 @@ impl TypeDetail {
         self.fields.variant
     }
 
-    /// The name, of 1 to 256 bytes.
+    /// Returns the type's name, which has 1 to 256 bytes.
     pub fn type_name(&self) -> &str
         ensures value { result.now ≡ self.now.name }
         ensures limits { IsDetail self.now }
@@ -202,7 +204,7 @@ impl TypeDetail {
         self.fields.type_name.as_str()
     }
 
-    /// The size of one value in bytes.
+    /// Returns the size of one value, in bytes.
     pub fn size(&self) -> u64
         ensures value { result ≡ self.now.size }
         ensures below { result < 2 ^ 64 }
@@ -211,7 +213,7 @@ impl TypeDetail {
         self.fields.size
     }
 
-    /// The alignment in bytes, a power of two.
+    /// Returns the alignment in bytes, a power of two.
     pub fn alignment(&self) -> u64
         ensures value { result ≡ self.now.alignment }
         ensures below { result < 2 ^ 64 }
@@ -220,7 +222,7 @@ impl TypeDetail {
         self.fields.alignment.value()
     }
 
-    /// The same type, aligned at least as far as is asked.
+    /// Returns the same type, with at least the alignment that is asked for.
     pub(super) fn with_alignment(self, asked: Option<Alignment>) -> TypeDetail
         ensures value { result ≡ aligned_as self asked }
         ensures limits { IsDetail result }
@@ -237,7 +239,7 @@ impl TypeDetail {
         TypeDetail { fields }
     }
 
-    /// Whether they are the same in all fields.
+    /// Returns whether both details are the same in all fields.
     pub(super) fn is_same(&self, other: &TypeDetail) -> bool
         ensures exact { IsTrue result ↔ (self.now ≡ other.now) }
         ensures value { result ≡ same_detail self.now other.now }
@@ -248,7 +250,7 @@ impl TypeDetail {
             && self.alignment() == other.alignment()
     }
 
-    /// Whether this is the other's type, aligned at most as far.
+    /// Returns whether this is the other's type, with at most the other's alignment.
     pub(super) fn fits(&self, other: &TypeDetail) -> bool
         ensures exact { IsTrue result ↔ Fits self.now other.now }
         ensures value { result ≡ fits self.now other.now }

@@ -1,4 +1,4 @@
-//! What integers say of themselves.
+//! The details that integers state.
 
 ghost use Rattle.std.specs.Prelude.{codes, refl};
 ghost use Rattle.std.proofs.Common.{lit≤};

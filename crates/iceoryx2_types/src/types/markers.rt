@@ -1,4 +1,4 @@
-//! Types that stand in place of one that is told by its details.
+//! Placeholders for types that are known by their details.
 
 ghost use Rattle.std.specs.Prelude.{codes, refl};
 ghost use Rattle.std.proofs.Common.{lit≤};
@@ -7,17 +7,17 @@ ghost use Rattle.iceoryx2_types.specs.Types.{fixed_size};
 
 use super::{TypeVariant, ZeroCopySend};
 
-/// Stands in place of a user header.
+/// A placeholder for a user header.
 /// Hidden in iceoryx2.
 #[derive(Clone, Copy, Debug, PartialEq, Eq)]
 pub struct CustomHeaderMarker;
 
-/// Stands in place of a payload.
+/// A placeholder for a payload.
 /// Hidden in iceoryx2.
 #[derive(Clone, Copy, Debug, PartialEq, Eq)]
 pub struct CustomPayloadMarker(u8);
 
-/// Stands in place of a key.
+/// A placeholder for a key.
 /// Hidden in iceoryx2.
 #[derive(Clone, Copy, Debug, PartialEq, Eq)]
 pub struct CustomKeyMarker(u8);

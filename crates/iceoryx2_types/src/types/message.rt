@@ -1,4 +1,4 @@
-//! What a message is made of.
+//! The types of a message.
 
 ghost use Rattle.std.specs.Prelude.{◌≡◌, ◌↔◌, IfOk, IsTrue};
 ghost use Rattle.iceoryx2_types.specs.Types.{IsCompatible, IsDetail, IsMessage};
@@ -48,8 +48,8 @@ impl Model for MessageTypeDetails {
 }
 
 impl MessageTypeDetails {
-    /// What the three types state of themselves: one header, one user header, and a payload of one
-    /// value or a number of them. `AllocError` where there was no memory for their names.
+    /// Returns the details that the three types state: one header, one user header, and a payload of
+    /// one value or a number of them. `AllocError` if there was no memory for their names.
     pub fn from<H: ZeroCopySend, U: ZeroCopySend, P: ZeroCopySend>(
         alloc: Global,
         variant: TypeVariant,
@@ -68,9 +68,9 @@ impl MessageTypeDetails {
         })
     }
 
-    /// These types as a call asks for them: where a user header or a payload is given, it takes
-    /// the place of its own, and the payload is then aligned at least as far as is asked. So a
-    /// payload that is given and an alignment that is asked come to the same in either order.
+    /// Returns these types as a call asks for them. A user header or a payload that is given replaces
+    /// the message's own. Then the payload gets at least the alignment that is asked for. So the order
+    /// in which a payload is given and an alignment is asked for makes no difference.
     #[tactic(auto, unfolding(crate::specs::Types::with_overrides))]
     pub fn with_overrides(
         self,
@@ -95,9 +95,9 @@ impl MessageTypeDetails {
         }
     }
 
-    /// Whether messages of these types may be sent where those of the other are: the headers are
-    /// the same, and user header and payload are each the same but for the alignment, which is at
-    /// most the other's.
+    /// Returns whether messages of these types may be sent instead of messages of the other types. They
+    /// may if the headers are the same, and the user header and the payload are each the same except
+    /// for the alignment. The alignment of each is at most the other's.
     #[tactic(auto, unfolding(crate::specs::Types::compatible))]
     pub fn is_compatible_to(&self, other: &MessageTypeDetails) -> bool
         ensures exact { IsTrue result ↔ IsCompatible self.now other.now }

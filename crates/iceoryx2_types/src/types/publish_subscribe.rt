@@ -1,4 +1,4 @@
-//! The header of a message that is published.
+//! The header of a published message.
 
 ghost use Rattle.std.specs.Prelude.{codes, refl};
 ghost use Rattle.std.proofs.Common.{lit≤};

@@ -1,4 +1,4 @@
-//! Types that messages may be made of.
+//! Types that messages can be made of.
 
 ghost use Rattle.std.specs.Prelude.{◌≡◌, codes, refl};
 ghost use Rattle.std.proofs.Common.{lit≤};
@@ -10,33 +10,33 @@ ghost use Rattle.iceoryx2_types.specs.declared.types.TypeVariant.TheVariants.{Dy
 use super::TypeVariant;
 use std::marker::PhantomData;
 
-/// A type whose values may be sent without a copy. What it says of itself is constant.
+/// A type whose values may be sent without a copy. The details that the type states are constant.
 pub trait ZeroCopySend {
-    /// What is told of it.
+    /// The details of the type.
     ghost detail: { Detail };
 
-    /// Its name has 1 to 256 bytes.
+    /// The name has 1 to 256 bytes.
     ghost has_name_length: { HasNameLength detail.name };
 
-    /// Its alignment is a power of two.
+    /// The alignment is a power of two.
     ghost is_aligned: { IsAlignment detail.alignment };
 
-    /// Its size is a multiple of its alignment.
+    /// The size is a multiple of the alignment.
     ghost fills_its_place: { FillsItsPlace detail };
 
-    /// Whether a message holds one value of it or a number of them.
+    /// Returns whether a message holds one value of the type or a number of them.
     fn variant() -> TypeVariant
         ensures { result ≡ detail.variant };
 
-    /// Its name, or that of one of a number of values.
+    /// Returns the type's name. If a message holds a number of values, returns the name of one of them.
     fn type_name() -> &'static str
         ensures { result.now ≡ detail.name };
 
-    /// The size in bytes, of one value.
+    /// Returns the size of one value, in bytes.
     fn size() -> u64
         ensures { result ≡ detail.size };
 
-    /// The alignment in bytes, a power of two.
+    /// Returns the alignment in bytes, a power of two.
     fn alignment() -> u64
         ensures { result ≡ detail.alignment };
 }
