@@ -9,4 +9,5 @@ pub mod ByteSteps
 pub mod Keeping
 pub mod Decoded
 pub mod Positions
+pub mod Holdings
 pub mod Turning

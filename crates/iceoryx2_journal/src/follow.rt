@@ -100,8 +100,9 @@ fn make_segment(
     number: u64,
     max_nodes: u64,
 ) -> Result<(), FollowError>
-    ensures { Follows (record { node = node; hash = hash.now; operation = operation.MakeSegment number max_nodes }) result
-        world.old world.new }
+    ensures { Follows
+        (record { node = node; hash = hash.now; operation = operation.MakeSegment number max_nodes })
+        result world.old world.new }
 {
     judging::made_segment(world.make_segment(&mut Unrecorded, node, hash, number, max_nodes))
 }

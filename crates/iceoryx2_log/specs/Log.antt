@@ -61,7 +61,8 @@ pub record Rejoins (counter : ℕ) (old new : Contents) : Type 0 where
   pub begins : new.begins ≡ counter
   pub taken : new.taken ≡ []
 
--- Nothing was unread, and it stands in a new place, behind these entries, which are all. The counter begins with 0 there.
+-- Nothing was unread, and it stands in a new place, behind these entries, which are all. There the counter begins
+-- with 0.
 pub record Compacts (snapshot : List Entry) (old new : Contents) : Type 0 where
   pub none_unread : old.unread ≡ []
   pub begins : new.begins ≡ 0

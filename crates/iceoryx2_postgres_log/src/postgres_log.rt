@@ -12,7 +12,7 @@ ghost use Rattle.iceoryx2_log.specs.Log.{is_shown};
 ghost use Rattle.iceoryx2_postgres_log.specs.declared.fault.PostgresFault.TheVariants as fault;
 ghost use Rattle.iceoryx2_postgres_log.specs.declared.postgres_log.Mode.TheVariants as way;
 ghost use Rattle.iceoryx2_postgres_log.specs.Compacting.{IsCompacted, Leaves};
-ghost use Rattle.iceoryx2_postgres_log.specs.Faults.{is_over_by, log_error_of, IsGrave};
+ghost use Rattle.iceoryx2_postgres_log.specs.Faults.{is_over_by, log_error_of};
 ghost use Rattle.iceoryx2_postgres_log.specs.First.{Shows, ShowsMark, IsDamaged};
 ghost use Rattle.iceoryx2_postgres_log.specs.Hearing.{IsOpened, IsHeld, IsBusy, IsFreed, IsLook};
 ghost use Rattle.iceoryx2_postgres_log.specs.Names.{IsLogName};
@@ -24,20 +24,19 @@ ghost use Rattle.iceoryx2_postgres_log.specs.Handle.{IsErrorOf, ReadsOn, Appende
 ghost use Rattle.iceoryx2_postgres_log.specs.Handle.{MayAppend};
 
 mod again;
+mod reading;
 
 use crate::compacting::ask_compact;
 use crate::fault::{PostgresFault, log_error};
 use crate::first::{first_of, is_mark};
-use crate::hearing::{
-    ask_append, ask_hold, ask_look, ask_opened, ask_pause, form_of, write_letting_go,
-};
+use crate::hearing::{ask_append, ask_hold, ask_look, ask_opened, ask_pause, form_of};
 use crate::line::Line;
 use crate::name::is_log_name;
 use crate::patience::lock_wait;
 use crate::piece::Piece;
-use crate::question::{END, opening, reopening};
+use crate::question::{END, opening};
 use crate::row::Row;
-use crate::standing::{Standing, is_later};
+use crate::standing::Standing;
 use iceoryx2_log::entry::Entry;
 use iceoryx2_log::log::{Log, LogError};
 use std::alloc::Global;
@@ -305,94 +304,6 @@ impl<R, W> PostgresLog<R, W> {
             return Some(PostgresFault::Unread);
         }
         None
-    }
-}
-
-impl<R: BufRead, W: Write> PostgresLog<R, W> {
-    /// Reads the next rows where none is unread and there are some up to the number that was measured.
-    fn read_on(&mut self) -> Result<(), PostgresFault>
-        ensures ok { OnOk result (ReadsOn self.old.at self.old.until self.old.ahead.items
-            (W.contents self.old.questions) (W.contents self.new.questions)
-            (R.remaining self.old.replies) (R.remaining self.new.replies) self.new.ahead.items) }
-        ensures err { IfErr result (λ why. IsGrave why × (self.new.ahead.items ≡ self.old.ahead.items)) }
-        ensures same { self.new ≡ record self.old {
-          questions = self.new.questions;
-          replies = self.new.replies;
-          ahead = self.new.ahead;
-        } }
-    {
-        if !self.ahead.is_empty() {
-            return Ok(());
-        }
-        if self.at.number == self.until {
-            return Ok(());
-        }
-        match ask_look(
-            self.alloc,
-            &self.at,
-            self.until,
-            &mut self.questions,
-            &mut self.replies,
-        ) {
-            Err(why) => Err(why),
-            Ok(piece) => {
-                let (_last, rows) = piece.into_parts();
-                if rows.is_empty() {
-                    return Err(PostgresFault::NotUnderstood);
-                }
-                self.ahead = rows;
-                Ok(())
-            }
-        }
-    }
-
-    /// Lets go of the log where that is asked for. A session to which that can't be said is over.
-    fn end_hold(&mut self)
-        ensures says { spec.is_over self.old.fault ≡ false → (self.new.fault ≡ Some fault.SessionEnded)
-            ⊎ ((self.new.fault ≡ self.old.fault) × Appends (W.contents self.old.questions)
-            (W.contents self.new.questions) (text.letting_go self.old.at.log)) }
-        ensures over { spec.is_over self.old.fault ≡ true → self.new ≡ self.old }
-        ensures same { self.new ≡ record self.old { questions = self.new.questions; fault = self.new.fault } }
-    {
-        if self.why_over().is_some() {
-            return;
-        }
-        match write_letting_go(self.at.log, &mut self.questions) {
-            Ok(()) => {}
-            Err(_) => self.fault = Some(PostgresFault::SessionEnded),
-        }
-    }
-
-    /// The start of the generation that is current now, which is a later one, and what stands in it.
-    fn find_again(&mut self) -> Result<(Standing, Piece), PostgresFault>
-        ensures ok { IfOk result (λ found. Rejoined (string_bytes self.old.name) self.old.at found.0
-            (W.contents self.old.questions) (W.contents self.new.questions)
-            (R.remaining self.old.replies) (R.remaining self.new.replies) found.1) }
-        ensures same { self.new ≡ record self.old { questions = self.new.questions; replies = self.new.replies } }
-    {
-        let question = reopening(self.alloc, &self.name)?;
-        let found = ask_opened(
-            self.alloc,
-            question.as_bytes(),
-            &mut self.questions,
-            &mut self.replies,
-        )?;
-        let Some(start) = found else {
-            return Err(PostgresFault::NoLog);
-        };
-        if !is_later(&self.at, &start) {
-            return Err(PostgresFault::AnotherHistory);
-        }
-        match ask_look(
-            self.alloc,
-            &start,
-            END,
-            &mut self.questions,
-            &mut self.replies,
-        ) {
-            Ok(piece) => Ok((start, piece)),
-            Err(why) => Err(why),
-        }
     }
 }
 

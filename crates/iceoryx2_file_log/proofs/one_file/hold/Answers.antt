@@ -4,7 +4,7 @@ use Rattle.iceoryx2_log.specs.Log.{WhereKnown, Grows}
 use Rattle.iceoryx2_file_log.specs.Place.{Place}
 use Rattle.iceoryx2_file_log.specs.Medium.{Known, Grants, Unlocks}
 use Rattle.iceoryx2_file_log.specs.OneFile.{Fits, contents_of}
-use Rattle.iceoryx2_file_log.proofs.Positions.{never_shorter, none_after, none_fits, held_fits, held_grows}
+use Rattle.iceoryx2_file_log.proofs.Holdings.{never_shorter, none_after, none_fits, held_fits, held_grows}
 use Rattle.iceoryx2_file_log.proofs.one_file.hold.Goals as goal
 
 pub returns-clause-fits : goal.returns-clause-fits

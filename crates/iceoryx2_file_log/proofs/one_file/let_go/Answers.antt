@@ -3,7 +3,7 @@ use Rattle.std.specs.Prelude.{IfSome, Option}
 use Rattle.iceoryx2_file_log.specs.Place.{Place}
 use Rattle.iceoryx2_file_log.specs.Medium.{Known}
 use Rattle.iceoryx2_file_log.specs.OneFile.{Fits, contents_of}
-use Rattle.iceoryx2_file_log.proofs.Positions.{freed_fits, freed_contents}
+use Rattle.iceoryx2_file_log.proofs.Holdings.{freed_fits, freed_contents}
 use Rattle.iceoryx2_file_log.proofs.one_file.let_go.Goals as goal
 
 pub returns-clause-fits : goal.returns-clause-fits

@@ -3,7 +3,8 @@ use Rattle.std.specs.Prelude.{Option}
 use Rattle.iceoryx2_file_log.specs.Medium.{Known, Becomes}
 use Rattle.iceoryx2_file_log.specs.Bytes.{CutsAll}
 use Rattle.iceoryx2_file_log.specs.Bytes.{CutsOrStays}
-use Rattle.iceoryx2_file_log.proofs.Positions.{back_fits, back_contents, doubt_fits, doubt_contents, refused_fits}
+use Rattle.iceoryx2_file_log.proofs.Positions.{refused_fits}
+use Rattle.iceoryx2_file_log.proofs.Holdings.{back_fits, back_contents, doubt_fits, doubt_contents}
 use Rattle.iceoryx2_file_log.proofs.one_file.take_back.Goals as goal
 
 pub returns-in-Ok-clause-fits : goal.returns-in-Ok-clause-fits

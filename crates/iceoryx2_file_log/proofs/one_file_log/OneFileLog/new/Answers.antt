@@ -4,7 +4,7 @@ use Rattle.iceoryx2_file_log.specs.Handle.{HasLock}
 use Rattle.iceoryx2_file_log.specs.Medium.{Known}
 use Rattle.iceoryx2_file_log.specs.OneFile.{Fits}
 use Rattle.iceoryx2_file_log.specs.Place.{Place}
-use Rattle.iceoryx2_file_log.proofs.Positions.{start_fits}
+use Rattle.iceoryx2_file_log.proofs.Holdings.{start_fits}
 use Rattle.iceoryx2_file_log.proofs.one_file_log.OneFileLog.new.Goals as goal
 
 pub invariant_of-result : goal.invariant_of-result

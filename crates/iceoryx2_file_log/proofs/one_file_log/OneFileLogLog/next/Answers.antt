@@ -5,7 +5,8 @@ use Rattle.iceoryx2_file_log.specs.Handle.{HasLock}
 use Rattle.iceoryx2_file_log.specs.Medium.{Known}
 use Rattle.iceoryx2_file_log.specs.OneFile.{Fits}
 use Rattle.iceoryx2_file_log.specs.Place.{Place}
-use Rattle.iceoryx2_file_log.proofs.Positions.{refused_fits, refused_lock, lock_kept}
+use Rattle.iceoryx2_file_log.proofs.Positions.{refused_fits}
+use Rattle.iceoryx2_file_log.proofs.Holdings.{refused_lock, lock_kept}
 use Rattle.iceoryx2_file_log.proofs.one_file_log.OneFileLogLog.next.Goals as goal
 
 pub invariant_of-self-in-Err : goal.invariant_of-self-in-Err
