@@ -16,7 +16,6 @@ use iceoryx2_description::description::{ServiceHash, StaticConfig};
 use iceoryx2_log::entry::{Entry, FormBytes, Operation};
 use iceoryx2_log::log::Log;
 use iceoryx2_table::table::stored::StoredWorld;
-use std::alloc::Global;
 
 /// Makes the node's tag. If the tag wasn't there, it appends that. Answers `Fault` if the log
 /// refuses.
@@ -153,7 +152,6 @@ pub fn remove_description<L: Log>(
 /// Publishes the description, and appends its byte form. Answers `Other` if there is no memory for
 /// the byte form, or if the log refuses.
 pub fn publish<L: Log>(
-    alloc: Global,
     world: &mut StoredWorld,
     recorder: &mut LogRecorder<L>,
     node: u64,
@@ -165,6 +163,7 @@ pub fn publish<L: Log>(
         world.new recorder.old.log recorder.new.log }
     ensures free { L.held recorder.new.log ≡ false }
 {
+    let alloc = description.name().allocator();
     let Ok(form) = bytes::encode(alloc, description) else {
         recorder.log.let_go();
         return Err(PublishError::Other);

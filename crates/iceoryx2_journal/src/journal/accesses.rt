@@ -104,9 +104,7 @@ impl<L: Log> Storage for Journal<L> {
         if !self.begin_as(node) {
             return Err(PublishError::Other);
         }
-        let alloc = *self.nodes.allocator();
         parts::publish(
-            alloc,
             &mut self.world,
             &mut self.recorder,
             node,

@@ -69,7 +69,7 @@ impl<L: Log> Journal<L> {
         self.clean_all(node)
     }
 
-    // Does so for a node that isn't an own one.
+    // Releases everything of a node that is not an own one.
     fn clean_all(&mut self, node: u64) -> Result<Cleaned, CleanError>
         ensures all { CleansAll L.contents node result self.old self.new }
         ensures hold { KeepsHold L.held self.old self.new }
@@ -131,7 +131,7 @@ impl<L: Log> Journal<L> {
         self.settle_all(node, spared)
     }
 
-    // Does so, one thing after the other.
+    // Releases everything that the node owes, one thing after the other.
     fn settle_all(&mut self, node: u64, spared: &[u64]) -> Result<Cleaned, CleanError>
         ensures settles { SettlesBy node spared.now (λ j. j.world) (IsJournalAccess L.contents) result
             self.old self.new }
