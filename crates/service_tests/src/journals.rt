@@ -1,11 +1,5 @@
-//! Journals over logs in memory: what processes that share a log make of it, beside the plain table.
+//! Journals over logs in memory: what a process gives back of its own, and courses between two worlds.
 
 mod courses;
-mod handles;
-mod list_log;
-mod placed_log;
-mod places;
-mod recording;
-mod schedules;
+mod forms;
 mod settling;
-mod support;

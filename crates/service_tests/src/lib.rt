@@ -5,20 +5,14 @@
 //! world, and makes the accesses of its calls alone (`sessions`). The paths by which users name what the layer has
 //! (`paths`).
 //!
-//! Tables in sorted vectors, in chunks and in plain form answer alike (`tables`): after batches of steps of which each is
-//! drawn by chance, and in 2,000 schedules of commands and peers' steps drawn by chance (`drawn`), where the reply, the
-//! listing, the counter, the skipped steps and the waiting batches are the same after each command.
+//! Journals (`journals`): what a refused call left of an own node is given back, also after an append in doubt, and a
+//! course leads from a world to a later one after histories that are drawn by chance.
 //!
-//! A journal answers, lists and appends as the plain table to which the same accesses are made (`journals`): in 2,000
-//! schedules drawn by chance, and where two to four processes share one log, after each of whose calls all list the
-//! same, also where they compact it. A process that finds a log of known entries moved comes to what stands there, or is
-//! over where that has an own node's entry. A course leads from a world to a later one.
+//! `tools/check-drawn` compares storages, and processes at one log, in schedules that are drawn by chance.
 #![tactic(auto)]
 
 #[cfg(test)]
 mod calls;
-#[cfg(test)]
-mod drawn;
 #[cfg(test)]
 mod factories;
 #[cfg(test)]
@@ -29,8 +23,6 @@ mod paths;
 mod sessions;
 #[cfg(test)]
 mod support;
-#[cfg(test)]
-mod tables;
 #[cfg(test)]
 mod typed;
 #[cfg(test)]

@@ -2,6 +2,7 @@
 
 use iceoryx2_access::storage::{ServiceNameHasher, Sha1Hasher};
 use iceoryx2_description::description::{ServiceHash, ServiceName};
+use iceoryx2_log::entry::Entry;
 use iceoryx2_table::table::Table;
 use std::alloc::Global;
 use std::fmt::Debug;
@@ -56,4 +57,13 @@ pub fn draw(seed: &mut u64) -> u64 {
         .wrapping_add(1442695040888963407);
     *seed = next;
     next >> 33
+}
+
+/// Copies of entries.
+pub fn copies(rt: &impl Abort, alloc: Global, entries: &[Entry]) -> Vec<Entry> {
+    let mut copies = Vec::new(alloc);
+    for entry in entries {
+        push(rt, &mut copies, granted(rt, entry.clone()));
+    }
+    copies
 }

@@ -1,7 +1,7 @@
 //! Courses from a world to a later one, after histories that are drawn by chance.
 
-use crate::drawn::{Forms, SUBJECTS, Subject, drawn};
-use crate::journals::support::{assert_same, copies, draw, granted, push};
+use crate::journals::forms::{Forms, SUBJECTS, Subject, drawn};
+use crate::support::{assert_same, copies, draw, granted, push};
 use iceoryx2_description::description::{HASH_LENGTH, ServiceHash};
 use iceoryx2_journal::course::Course;
 use iceoryx2_journal::follow::follow;

@@ -1,8 +1,7 @@
 //! Calls of a node that are refused between two of their accesses: the node gives back what they left, and keeps what
 //! it uses.
 
-use super::support::copies;
-use crate::support::{assert_same, granted, push, there};
+use crate::support::{assert_same, copies, granted, push, there};
 use iceoryx2_builder::command::Reply;
 use iceoryx2_description::config::Config;
 use iceoryx2_journal::journal::Journal;

@@ -1,5 +1,0 @@
-//! Tables in sorted vectors, in chunks and in plain form, which answer alike.
-
-mod plain_session;
-mod schedules;
-mod steps;
