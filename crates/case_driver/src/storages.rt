@@ -13,8 +13,7 @@ use iceoryx2_table::table::stored::StoredWorld;
 use iceoryx2_testing::script::Script;
 use std::alloc::{AllocError, Global};
 use std::mem;
-use test_support::body::Body;
-use test_support::plain::Plain;
+use test_support::plain::PlainTable;
 use test_support::refusing::{Mode, Refused};
 
 /// The nodes of the journal's process.
@@ -39,11 +38,8 @@ fn over_plain(
     lines: &[&str],
     text: &mut String,
 ) -> Result<(), AllocError> {
-    let mut table = Plain::new(alloc);
-    Plain::schedule(
-        &mut table,
-        mem::replace(&mut given.batches, Vec::new(alloc)),
-    );
+    let mut table = PlainTable::new(alloc);
+    table.schedule(mem::replace(&mut given.batches, Vec::new(alloc)));
     run_lines(alloc, given, table, lines, text)
 }
 

@@ -12,8 +12,7 @@ use iceoryx2_table::table::TableOver;
 use iceoryx2_testing::script::Script;
 use iceoryx2_world::listing::Entry;
 use std::alloc::{AllocError, Global};
-use test_support::body::Body;
-use test_support::plain::{Plain, PlainTable};
+use test_support::plain::PlainTable;
 
 /// What is seen of a storage.
 #[derive(Drop)]
@@ -75,20 +74,17 @@ impl<W: OwnParts> Subject for TableOver<W> {
 impl Subject for PlainTable {
     fn seen(&self, _alloc: Global) -> Result<Seen, AllocError> {
         Ok(Seen {
-            entries: Plain::list(self)?,
-            counter: Some(Plain::counter(self)),
-            pending: Plain::pending(self),
-            skipped: Plain::skipped(self),
+            entries: self.list()?,
+            counter: Some(self.counter()),
+            pending: self.pending(),
+            skipped: self.skipped(),
             unsaid: 0,
             note: "",
         })
     }
 
     fn held(&self, node: u64, hash: &ServiceHash) -> (bool, u64) {
-        (
-            Plain::has_tag(self, node, hash),
-            Plain::tickets(self, node, hash),
-        )
+        (self.has_tag(node, hash), self.tickets(node, hash))
     }
 
     fn clean_up(&mut self, _node: u64, _text: &mut String) -> Result<(), CaseError> {

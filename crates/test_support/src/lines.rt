@@ -1,6 +1,5 @@
 //! What lines say: a command, and the description that a create makes.
 
-use crate::body::Body;
 use crate::places::Places;
 use iceoryx2_builder::command::Command;
 use iceoryx2_data::bytes::encode;
@@ -25,7 +24,7 @@ pub fn created(alloc: Global, line: &str) -> Option<Vec<u8>> {
     let mut places = Places::new(alloc).ok()?;
     let mut table = Table::new(alloc);
     let _reply = places.call::<Local>(call, &mut table);
-    Local::let_go(table);
+    drop(table);
     let (_, description) = places.factory(0)?;
     encode(alloc, description).ok()
 }

@@ -1,10 +1,9 @@
 //! The table in its plain form, written from the rules of its steps and accesses alone.
 
-use crate::body::Body;
 use crate::standing::Standing;
 use iceoryx2_access::storage::{
     Existence, FetchError, LockError, MakeSegmentError, OpenSegmentError, PublishError, Release,
-    ReleaseError, RemoveError, Service, Sha1Hasher, Storage, Tag, TagError,
+    ReleaseError, RemoveError, Storage, Tag, TagError,
 };
 use iceoryx2_description::description::{ServiceHash, StaticConfig};
 use iceoryx2_table::table::{Act, Step};
@@ -17,7 +16,6 @@ use std::collections::BTreeMap;
 /// the next batch of peers' steps runs. Out of memory is answered as such, and may leave a step half made.
 ///
 /// It stands for tests alone, which compare what it answers: its step relation says nothing.
-#[derive(Drop)]
 pub struct PlainTable {
     alloc: Global,
     services: BTreeMap<ServiceHash, Standing>,
@@ -27,18 +25,26 @@ pub struct PlainTable {
     skipped: u64,
 }
 
+// Written out, so that a proof of what lets one go doesn't take its fields apart.
+impl Drop for PlainTable {
+    fn drop(self) {
+        let PlainTable {
+            alloc: _,
+            services: _,
+            counter: _,
+            waiting: _,
+            skipped: _,
+        } = self;
+    }
+}
+
 impl PlainTable {
     /// Where a participant is with the service.
-    pub fn phase(&self, participant: Participant, hash: &ServiceHash) -> Phase {
+    fn phase(&self, participant: Participant, hash: &ServiceHash) -> Phase {
         match self.services.get(hash) {
             Some(standing) => standing.phase(participant),
             None => Phase::Idle,
         }
-    }
-
-    /// The first of a node's tickets for the service, and the number that it is for.
-    pub fn first_ticket(&self, node: u64, hash: &ServiceHash) -> Option<(u64, u64)> {
-        self.services.get(hash)?.first_ticket(node)
     }
 
     /// What the service's row says of it.
@@ -293,17 +299,9 @@ impl Storage for PlainTable {
     }
 }
 
-/// Services that stand in a [`PlainTable`], under hashes by SHA-1.
-pub struct Plain;
-
-impl Service for Plain {
-    type Storage = PlainTable;
-
-    type ServiceNameHasher = Sha1Hasher;
-}
-
-impl Body for Plain {
-    fn new(alloc: Global) -> PlainTable {
+impl PlainTable {
+    /// An empty table, which counts from 0 on.
+    pub fn new(alloc: Global) -> PlainTable {
         PlainTable {
             alloc,
             services: BTreeMap::new(alloc),
@@ -313,25 +311,30 @@ impl Body for Plain {
         }
     }
 
-    fn schedule(table: &mut PlainTable, batches: Vec<Vec<Step>>) {
-        table.waiting = batches;
+    /// Lets these batches of peers' steps wait, of which each access takes the first.
+    pub fn schedule(&mut self, batches: Vec<Vec<Step>>) {
+        self.waiting = batches;
     }
 
-    fn pending(table: &PlainTable) -> usize {
-        table.waiting.len()
+    /// How many batches wait.
+    pub fn pending(&self) -> usize {
+        self.waiting.len()
     }
 
-    fn counter(table: &PlainTable) -> u64 {
-        table.counter
+    /// The next number.
+    pub fn counter(&self) -> u64 {
+        self.counter
     }
 
-    fn skipped(table: &PlainTable) -> u64 {
-        table.skipped
+    /// How many steps found no memory.
+    pub fn skipped(&self) -> u64 {
+        self.skipped
     }
 
-    fn list(table: &PlainTable) -> Result<Vec<Entry>, AllocError> {
-        let mut entries = Vec::new(table.alloc);
-        for (hash, standing) in table.services.iter() {
+    /// Each service with a row or a segment.
+    pub fn list(&self) -> Result<Vec<Entry>, AllocError> {
+        let mut entries = Vec::new(self.alloc);
+        for (hash, standing) in self.services.iter() {
             if let Some(entry) = standing.listed(*hash)? {
                 entries.push(entry)?;
             }
@@ -339,21 +342,19 @@ impl Body for Plain {
         Ok(entries)
     }
 
-    fn has_tag(table: &PlainTable, node: u64, hash: &ServiceHash) -> bool {
-        match table.services.get(hash) {
+    /// Whether the node has a tag for the service.
+    pub fn has_tag(&self, node: u64, hash: &ServiceHash) -> bool {
+        match self.services.get(hash) {
             Some(standing) => standing.has_tag(node),
             None => false,
         }
     }
 
-    fn tickets(table: &PlainTable, node: u64, hash: &ServiceHash) -> u64 {
-        match table.services.get(hash) {
+    /// How many tickets the node has for the service.
+    pub fn tickets(&self, node: u64, hash: &ServiceHash) -> u64 {
+        match self.services.get(hash) {
             Some(standing) => standing.tickets(node),
             None => 0,
         }
-    }
-
-    fn let_go(table: PlainTable) {
-        let _table = table;
     }
 }
