@@ -2,7 +2,7 @@
 //! are those that were computed in Python. What a handle makes of bytes is the same over a real file. A scenario is
 //! `None` where there is no memory, or the system refuses something that it has to do.
 
-use crate::file_logs::{changed, lock as lock_entry, read_from_file, take_two};
+use crate::file_logs::{lock as lock_entry, read_from_file, take_two};
 use crate::samples::{HEADER, LOCK};
 use crate::support::assert_same;
 use iceoryx2_file_log::bytes::{lock, read_back};
@@ -214,6 +214,15 @@ fn each_cut_of_the_last_entry_is_torn(rt: HostRuntime) {
             (length, both([Ok(Some(true)), Ok(None)])),
         );
     }
+}
+
+/// Returns the entry's form with another byte at a place.
+fn changed(place: usize) -> [u8; 53] {
+    let mut bytes = LOCK;
+    if place < bytes.len() {
+        bytes[place] ^= 1;
+    }
+    bytes
 }
 
 /// In which bytes the length of an entry stands, twice.
