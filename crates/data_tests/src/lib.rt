@@ -14,7 +14,7 @@
 //!
 //! Of logs and nodes in a database, whose replies a script tells (`postgres_logs`, `postgres_generations`,
 //! `postgres_nodes`): what is asked, byte for byte, and what each reply is answered by. A handle that is told something
-//! else than it asked for asks nothing any more.
+//! else than it asked for asks nothing any more. The handles of logs carry out scripts (`postgres_scripts`).
 #![tactic(auto)]
 
 #[cfg(test)]
@@ -43,6 +43,8 @@ mod postgres_generations;
 mod postgres_logs;
 #[cfg(test)]
 mod postgres_nodes;
+#[cfg(test)]
+mod postgres_scripts;
 #[cfg(test)]
 mod samples;
 #[cfg(test)]

@@ -1,31 +1,10 @@
-//! Logs in a database, of which a script tells the replies: what is asked, and what is answered where this or that is told.
-//! That a server keeps to it is tested by `tools/check-postgres`. In a script `$` is the sum of a row, `%` the form of the
-//! lock of the other tests, and `&` that of the mark that a log goes on in its next generation.
-//! A scenario is `None` where there is no memory.
+//! Logs in a database whose replies the tests give: what a handle asks, and how it answers each reply. `postgres_scripts`
+//! lists the words of the scripts and the signs in the replies. `tools/check-postgres` tests that a server gives these
+//! replies.
 
-use crate::file_logs::lock;
-use crate::support::assert_same;
-use iceoryx2_log::log::{Log, LogError};
-use iceoryx2_postgres_log::fault::PostgresFault;
-use iceoryx2_postgres_log::postgres_log::{PostgresLog, State};
+use crate::postgres_scripts::{HELD, OPENED, assert_asks, assert_goes_on, assert_script};
 
-pub type Handle<'a> = PostgresLog<&'a [u8], &'a mut Vec<u8>>;
-
-const SUM: &str = "000102030405060708090a0b0c0d0e0f101112131415161718191a1b1c1d1e1f";
-
-const LOCK: &str =
-    "00000025ffffffda48de62d870bebddb030000000000000002101112131415161718191a1b1c1d1e1f202122230000000000000005";
-
-const MARK: &str =
-    "0000001dffffffe20e5303137d02872b0b00000000000000000000000000000000000000000000000000000000";
-
-/// That a new log stands before its first entry.
-pub const OPENED: &str = "1 7 0 1 0 $\nopened 00000\n";
-
-/// That it is held, and nothing stands in it.
-const HELD: &str = "\n0 $ 0\nheld 00000\n";
-
-/// What `ask_all` asks.
+/// Everything that the calls of `CALLS` ask.
 const QUESTIONS: &str =
     "set lock_timeout = 500\\; set idle_in_transaction_session_timeout = 2000\\; select wulameron.opened('lamps', true);
 \\echo opened :SQLSTATE
@@ -51,250 +30,165 @@ select pg_sleep(0.005);
 \\echo paused :SQLSTATE
 ";
 
-/// What it is told.
+/// The replies to these questions, except for the first one.
 const REPLIES: &str =
     "\n0 $ 0\nheld 00000\n1 $\nappended 00000\n1 $ 2\n2 $ %\nread 00000\n\n2 $ 2\nheld 00000\n\npaused 00000\n";
 
-/// Puts a part of a script behind a text, with what its signs are.
-fn add(told: &mut String, part: &str) -> Option<()> {
-    for letter in part.chars() {
-        match letter {
-            '$' => told.push_str(SUM).ok()?,
-            '%' => told.push_str(LOCK).ok()?,
-            '&' => told.push_str(MARK).ok()?,
-            _ => told.push(letter).ok()?,
-        }
-    }
-    Some(())
-}
-
-/// The parts of a script, one behind the other, with what its signs are.
-pub fn script(rt: &HostRuntime, parts: &[&str]) -> Option<String> {
-    let mut told = String::new(rt.alloc());
-    for part in parts {
-        add(&mut told, part)?;
-    }
-    Some(told)
-}
-
-/// A handle of the log `lamps`, which waits for half a second.
-pub fn open<'a>(
-    rt: &HostRuntime,
-    asked: &'a mut Vec<u8>,
-    told: &'a str,
-) -> Result<Handle<'a>, PostgresFault> {
-    PostgresLog::open(rt.alloc(), "lamps", 500, true, asked, told.as_bytes())
-}
-
-/// Makes each call that asks something, and answers whether each was right.
-fn call_all(log: &mut Handle<'_>) -> [bool; 9] {
-    let held = log.hold() == Ok(()) && log.state() == State::Held;
-    let empty = log.next() == Ok(None);
-    let appended = log.append(&lock()) == Ok(()) && log.number() == 1;
-    log.let_go();
-    let looked = log.look() == Ok(()) && log.state() == State::Looked;
-    let found = log.next() == Ok(Some(lock()));
-    log.accept();
-    log.let_go();
-    let again = log.hold() == Ok(()) && log.number() == 2;
-    let too_late = !log.pause(100) && log.state() == State::Held;
-    let paused = log.pause(99) && log.state() == State::Free;
-    let stands = log.counter() == 1 && log.generation() == 0;
-    [
-        held, empty, appended, looked, found, again, too_late, paused, stands,
-    ]
-}
-
-fn ask_all(rt: &HostRuntime) -> Option<(String, [bool; 9])> {
-    let told = script(rt, &[OPENED, REPLIES])?;
-    let mut asked = Vec::new(rt.alloc());
-    let right = call_all(&mut open(rt, &mut asked, &told).ok()?);
-    Some((String::from_utf8(asked).ok()?, right))
-}
+/// Each call that asks something, and what the handle is then.
+const CALLS: &str = r"
+    open => ok
+    hold => ok
+    state => Held
+    next => none
+    append => ok
+    stands => generation 0 number 1 counter 1
+    let go
+    look => ok
+    state => Looked
+    next => lock
+    accept
+    let go
+    hold => ok
+    stands => generation 0 number 2 counter 1
+    pause 100 => false
+    state => Held
+    pause 99 => true
+    state => Free
+    stands => generation 0 number 2 counter 1
+    asked => all
+";
 
 #[test]
 fn each_question_is_asked_and_answered(rt: HostRuntime) {
-    let (asked, right) = match ask_all(&rt) {
-        Some(found) => found,
-        None => panic!(&rt; "no memory"),
-    };
-    assert_same(&rt, right, [true; 9]);
-    assert_same(&rt, asked.as_str(), QUESTIONS);
-}
-
-/// Why a log isn't opened where this is told, if it isn't.
-fn opened(rt: &HostRuntime, told: &str) -> Option<Option<PostgresFault>> {
-    let told = script(rt, &[told])?;
-    let mut asked = Vec::new(rt.alloc());
-    Some(open(rt, &mut asked, &told).err())
+    assert_asks(&rt, rt.alloc(), &[OPENED, REPLIES], &[CALLS], QUESTIONS);
 }
 
 #[test]
 fn a_log_is_opened_by_one_row_alone(rt: HostRuntime) {
-    for (told, wanted) in [
-        (OPENED, None),
-        ("opened 00000\n", Some(PostgresFault::NoLog)),
+    for (told, script) in [
+        (OPENED, "open => ok"),
+        ("opened 00000\n", "open => NoLog"),
         (
             "2 7 0 1 0 $\nopened 00000\n",
-            Some(PostgresFault::AnotherVersion { found: 2 }),
+            "open => AnotherVersion { found: 2 }",
         ),
-        (
-            "1 7 0 1 0 $0\nopened 00000\n",
-            Some(PostgresFault::NotUnderstood),
-        ),
-        (
-            "1 07 0 1 0 $\nopened 00000\n",
-            Some(PostgresFault::NotUnderstood),
-        ),
-        (
-            "ERROR:  3F000\nopened 3F000\n",
-            Some(PostgresFault::NoSchema),
-        ),
-        ("ERROR:  55P03\nopened 55P03\n", Some(PostgresFault::Busy)),
-        ("", Some(PostgresFault::SessionEnded)),
+        ("1 7 0 1 0 $0\nopened 00000\n", "open => NotUnderstood"),
+        ("1 07 0 1 0 $\nopened 00000\n", "open => NotUnderstood"),
+        ("ERROR:  3F000\nopened 3F000\n", "open => NoSchema"),
+        ("ERROR:  55P03\nopened 55P03\n", "open => Busy"),
+        ("", "open => SessionEnded"),
     ] {
-        assert_same(&rt, (told, opened(&rt, told)), (told, Some(wanted)));
+        assert_script(&rt, rt.alloc(), &[told], &[script]);
     }
-}
-
-/// What a call is answered, the fault that is kept, and how the handle stands then.
-type Answer = (Result<(), LogError>, Option<PostgresFault>, State);
-
-/// The same of a hold where this is told.
-fn held(rt: &HostRuntime, told: &str) -> Option<Answer> {
-    let told = script(rt, &[OPENED, told])?;
-    let mut asked = Vec::new(rt.alloc());
-    let mut log = open(rt, &mut asked, &told).ok()?;
-    Some((log.hold(), log.fault(), log.state()))
-}
-
-const fn over(fault: PostgresFault) -> Answer {
-    (Err(LogError::Failed), Some(fault), State::Over)
 }
 
 #[test]
 fn a_hold_is_answered_by_its_place_and_all_rows_behind_it(rt: HostRuntime) {
-    let busy = (Err(LogError::Busy), Some(PostgresFault::Busy), State::Free);
-    let canceled = PostgresFault::Refused { state: *b"57014" };
-    for (told, wanted) in [
-        (HELD, (Ok(()), None, State::Held)),
-        (
-            "\n0 $ 2\n1 $ %\n2 $ %\nheld 00000\n",
-            (Ok(()), None, State::Held),
-        ),
+    let held = "hold => ok\nfault => none\nstate => Held";
+    let busy = "hold => Busy\nfault => Busy\nstate => Free";
+    let another = "hold => Failed\nfault => AnotherHistory\nstate => Over";
+    let strange = "hold => Failed\nfault => NotUnderstood\nstate => Over";
+    let no_right = "hold => Failed\nfault => NoRight\nstate => Over";
+    let canceled = "hold => Failed\nfault => the database refused (SQLSTATE 57014)\nstate => Over";
+    let ended = "hold => Failed\nfault => SessionEnded\nstate => Over";
+    for (told, script) in [
+        (HELD, held),
+        ("\n0 $ 2\n1 $ %\n2 $ %\nheld 00000\n", held),
         ("ERROR:  55P03\nheld 55P03\n", busy),
-        (
-            "\n0 0$ 0\nheld 00000\n",
-            over(PostgresFault::AnotherHistory),
-        ),
-        ("\nheld 00000\n", over(PostgresFault::AnotherHistory)),
-        ("0 $ 0\nheld 00000\n", over(PostgresFault::NotUnderstood)),
-        (
-            "\n0 $ 2\n2 $ %\nheld 00000\n",
-            over(PostgresFault::NotUnderstood),
-        ),
-        (
-            "\n0 $ 2\n1 $ %\nheld 00000\n",
-            over(PostgresFault::NotUnderstood),
-        ),
-        (
-            "WARNING:  01000\n\n0 $ 0\nheld 00000\n",
-            over(PostgresFault::NotUnderstood),
-        ),
-        ("ERROR:  42501\nheld 42501\n", over(PostgresFault::NoRight)),
-        ("ERROR:  57014\nheld 57014\n", over(canceled)),
-        ("\n0 $ 0\n", over(PostgresFault::SessionEnded)),
+        ("\n0 0$ 0\nheld 00000\n", another),
+        ("\nheld 00000\n", another),
+        ("0 $ 0\nheld 00000\n", strange),
+        ("\n0 $ 2\n2 $ %\nheld 00000\n", strange),
+        ("\n0 $ 2\n1 $ %\nheld 00000\n", strange),
+        ("WARNING:  01000\n\n0 $ 0\nheld 00000\n", strange),
+        ("ERROR:  42501\nheld 42501\n", no_right),
+        ("ERROR:  57014\nheld 57014\n", canceled),
+        ("\n0 $ 0\n", ended),
     ] {
-        assert_same(&rt, (told, held(&rt, told)), (told, Some(wanted)));
+        assert_script(&rt, rt.alloc(), &[OPENED, told], &["open => ok", script]);
     }
-}
-
-/// What an append is answered where this is told.
-fn appended(rt: &HostRuntime, told: &str) -> Option<Answer> {
-    let told = script(rt, &[OPENED, HELD, told])?;
-    let mut asked = Vec::new(rt.alloc());
-    let mut log = open(rt, &mut asked, &told).ok()?;
-    log.hold().ok()?;
-    Some((log.append(&lock()), log.fault(), log.state()))
 }
 
 #[test]
 fn an_append_is_answered_by_its_place_alone(rt: HostRuntime) {
-    let taken = PostgresFault::Refused { state: *b"23505" };
-    for (told, wanted) in [
-        ("1 $\nappended 00000\n", (Ok(()), None, State::Held)),
-        ("2 $\nappended 00000\n", over(PostgresFault::Unsure)),
-        ("appended 00000\n", over(PostgresFault::Unsure)),
-        (
-            "WARNING:  01000\n1 $\nappended 00000\n",
-            over(PostgresFault::Unsure),
-        ),
-        ("ERROR:  23505\nappended 23505\n", over(taken)),
-        (
-            "ERROR:  25006\nappended 25006\n",
-            over(PostgresFault::ReadOnly),
-        ),
-        ("1 $\n", over(PostgresFault::Unsure)),
+    let stands = "append => ok\nfault => none\nstate => Held";
+    let unsure = "append => Failed\nfault => Unsure\nstate => Over";
+    let taken = "append => Failed\nfault => the database refused (SQLSTATE 23505)\nstate => Over";
+    let read_only = "append => Failed\nfault => ReadOnly\nstate => Over";
+    for (told, script) in [
+        ("1 $\nappended 00000\n", stands),
+        ("2 $\nappended 00000\n", unsure),
+        ("appended 00000\n", unsure),
+        ("WARNING:  01000\n1 $\nappended 00000\n", unsure),
+        ("ERROR:  23505\nappended 23505\n", taken),
+        ("ERROR:  25006\nappended 25006\n", read_only),
+        ("1 $\n", unsure),
     ] {
-        assert_same(&rt, (told, appended(&rt, told)), (told, Some(wanted)));
+        assert_script(
+            &rt,
+            rt.alloc(),
+            &[OPENED, HELD, told],
+            &["open => ok\nhold => ok", script],
+        );
     }
 }
 
-/// Why a handle that was told this start isn't had again where that is told in another session, if it isn't.
-fn had_again(rt: &HostRuntime, start: &str, told: &str) -> Option<Option<PostgresFault>> {
-    let start = script(rt, &[start])?;
-    let told = script(rt, &[told])?;
-    let mut asked = Vec::new(rt.alloc());
-    let mut asked_again = Vec::new(rt.alloc());
-    let log = open(rt, &mut asked, &start).ok()?;
-    Some(log.again(&mut asked_again, told.as_bytes()).err())
-}
-
-/// That a log stands in a later generation, with a snapshot of five entries.
+/// The reply that opens a log in a later generation, with a snapshot of five entries.
 const LATER: &str = "1 7 3 0 5 $\nopened 00000\n";
 
 #[test]
 fn a_handle_goes_on_in_the_same_log_alone(rt: HostRuntime) {
-    for (start, told, wanted) in [
-        (OPENED, OPENED, None),
-        (OPENED, LATER, None),
-        (LATER, OPENED, Some(PostgresFault::AnotherHistory)),
+    for (start, told, script) in [
+        (OPENED, OPENED, "again => ok"),
+        (OPENED, LATER, "again => ok"),
+        (LATER, OPENED, "again => AnotherHistory"),
         (
             OPENED,
             "1 8 0 1 0 $\nopened 00000\n",
-            Some(PostgresFault::AnotherHistory),
+            "again => AnotherHistory",
         ),
-        (OPENED, "opened 00000\n", Some(PostgresFault::NoLog)),
-        (OPENED, "", Some(PostgresFault::SessionEnded)),
+        (OPENED, "opened 00000\n", "again => NoLog"),
+        (OPENED, "", "again => SessionEnded"),
     ] {
-        assert_same(&rt, had_again(&rt, start, told), Some(wanted));
+        assert_goes_on(
+            &rt,
+            rt.alloc(),
+            (&[start], &["open => ok"]),
+            (&[told], &[script]),
+        );
     }
 }
 
-/// Whether a handle whose session ended behind an entry is free behind it in another one, and goes on if its place is
-/// told as it was, or as this.
-fn goes_on(rt: &HostRuntime, told: &str) -> Option<(bool, u64, Result<(), LogError>)> {
-    let first = script(rt, &[OPENED, HELD, "1 $\nappended 00000\n"])?;
-    let told = script(rt, &[OPENED, told])?;
-    let mut asked = Vec::new(rt.alloc());
-    let mut asked_again = Vec::new(rt.alloc());
-    let mut log = open(rt, &mut asked, &first).ok()?;
-    log.hold().ok()?;
-    log.append(&lock()).ok()?;
-    let is_over = log.look().is_err() && log.hold().is_err();
-    let mut again = log.again(&mut asked_again, told.as_bytes()).ok()?;
-    let is_free = is_over && again.state() == State::Free && again.fault().is_none();
-    let number = again.number();
-    Some((is_free, number, again.hold()))
-}
+/// A session that ends after an append.
+const ENDED: &str = r"
+    open => ok
+    hold => ok
+    append => ok
+    look => Failed
+    hold => Failed
+";
+
+/// The handle that goes on after it, in another session.
+const BEHIND: &str = r"
+    again => ok
+    state => Free
+    fault => none
+    stands => generation 0 number 1 counter 1
+";
 
 #[test]
 fn a_handle_goes_on_behind_the_entry_where_it_stood(rt: HostRuntime) {
-    for (told, wanted) in [
-        ("\n1 $ 1\nheld 00000\n", Ok(())),
-        ("\n1 ff$ 1\nheld 00000\n", Err(LogError::Failed)),
-        ("\nheld 00000\n", Err(LogError::Failed)),
+    let start = [OPENED, HELD, "1 $\nappended 00000\n"];
+    for (told, script) in [
+        ("\n1 $ 1\nheld 00000\n", "hold => ok"),
+        ("\n1 ff$ 1\nheld 00000\n", "hold => Failed"),
+        ("\nheld 00000\n", "hold => Failed"),
     ] {
-        assert_same(&rt, goes_on(&rt, told), Some((true, 1, wanted)));
+        assert_goes_on(
+            &rt,
+            rt.alloc(),
+            (&start, &[ENDED]),
+            (&[OPENED, told], &[BEHIND, script]),
+        );
     }
 }
