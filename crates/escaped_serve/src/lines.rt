@@ -29,7 +29,7 @@ const SHORT_REPLY: usize = 256;
 
 /// Escaped lines: commands, questions, and whole plain lines. Each line that isn't blank has a reply, and none ends the
 /// session.
-#[derive(Clone, Copy, Debug, PartialEq, Eq)]
+#[derive(Clone, Copy)]
 pub struct EscapedLines;
 
 impl<A: Asked> Lines<A> for EscapedLines {

@@ -6,7 +6,7 @@ ghost use Rattle.explain_serve.specs.Formats.{format_named, head_of};
 use crate::diagram::HEAD;
 
 /// What is printed of a command.
-#[derive(Clone, Copy, Debug, PartialEq, Eq)]
+#[derive(Clone, Copy)]
 pub enum Format {
     /// The reply, behind it the accesses, and for a refusal why it comes and what can be done.
     Lines,

@@ -14,7 +14,7 @@ use iceoryx2_errors::refusal::{Reason, Refusal};
 use std::alloc::AllocError;
 
 /// The part of a call that refuses.
-#[derive(Clone, Copy, Debug, PartialEq, Eq)]
+#[derive(Clone, Copy)]
 enum Part {
     Open,
     Create,
@@ -27,7 +27,7 @@ enum Part {
 }
 
 /// The pattern of the service that a call is for.
-#[derive(Clone, Copy, Debug, PartialEq, Eq)]
+#[derive(Clone, Copy)]
 enum Pattern {
     Event,
     PublishSubscribe,
@@ -181,7 +181,7 @@ macro_rules! row {
 }
 
 /// What docs/REFUSALS.md has of an error.
-#[derive(Clone, Copy, Debug, PartialEq, Eq)]
+#[derive(Clone, Copy)]
 pub struct RefusalRow {
     /// At which step of the call it comes, and of what.
     pub comes_when: &'static str,

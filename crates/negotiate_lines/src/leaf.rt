@@ -18,7 +18,7 @@ use std::alloc::{AllocError, Global};
 use std::borrow::CowStr;
 
 /// How the leaves of a line are written.
-#[derive(Clone, Copy, Debug, PartialEq, Eq)]
+#[derive(Clone, Copy)]
 pub enum Form {
     /// As they are. A line is a command then, and no question.
     Plain,

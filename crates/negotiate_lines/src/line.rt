@@ -22,7 +22,7 @@ use iceoryx2_description::description::{ServiceName, ServiceNameError};
 use std::alloc::{AllocError, Global};
 
 /// What a line is.
-#[derive(Debug, Drop)]
+#[derive(Drop)]
 pub enum Line<'a> {
     /// It has no term.
     Blank,

@@ -4,7 +4,7 @@ use crate::vocabulary::{Admitted, Kind};
 use std::alloc::AllocError;
 
 /// What is wrong with a line, with the term that it is about.
-#[derive(Clone, Copy, Debug, PartialEq, Eq)]
+#[derive(Clone, Copy)]
 pub enum LineError<'a> {
     /// The line isn't UTF-8.
     NotUtf8,
@@ -70,7 +70,7 @@ pub enum LineError<'a> {
 }
 
 /// Why a part of a line isn't read.
-#[derive(Clone, Copy, Debug, PartialEq, Eq)]
+#[derive(Clone, Copy)]
 pub(crate) enum LineFailure<'a> {
     /// It is wrong.
     Wrong(LineError<'a>),

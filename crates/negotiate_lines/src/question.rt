@@ -14,7 +14,7 @@ use iceoryx2_builder::command::SLOTS;
 use std::alloc::{AllocError, Global};
 
 /// What a session is asked beside commands.
-#[derive(Debug, Drop, PartialEq, Eq)]
+#[derive(Drop)]
 pub enum Question {
     /// What was agreed on in a slot, as the terms that ask for it.
     Show { slot: usize },
@@ -37,7 +37,7 @@ pub enum Question {
 }
 
 /// What a line of an escaped session is.
-#[derive(Debug, Drop)]
+#[derive(Drop)]
 pub enum Request<'a> {
     /// It begins with no word of a question.
     Line(Line<'a>),

@@ -4,7 +4,7 @@ ghost use Rattle.std.specs.Prelude.{◌≡◌, ◌<◌, ◌^◌, ℕ, List, [], 
 ghost use Rattle.negotiate_lines.specs.Terms.{AreAround, Finds, IsNumber, terms_of};
 
 /// Why nothing is read from a text.
-#[derive(Clone, Copy, Debug, PartialEq, Eq)]
+#[derive(Clone, Copy)]
 pub enum TermError {
     /// It is nothing of this kind.
     Malformed,

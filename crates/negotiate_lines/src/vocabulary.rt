@@ -9,7 +9,7 @@ use crate::term::TermError;
 use std::alloc::Global;
 
 /// What kind of value a setting takes.
-#[derive(Clone, Copy, Debug, PartialEq, Eq)]
+#[derive(Clone, Copy)]
 pub enum Kind {
     /// A number.
     Number,
@@ -26,7 +26,7 @@ pub enum Kind {
 }
 
 /// Which of the terms that every pattern has go with a call.
-#[derive(Clone, Copy, Debug, PartialEq, Eq)]
+#[derive(Clone, Copy)]
 pub struct Admitted {
     /// What the clock gives.
     pub now: bool,

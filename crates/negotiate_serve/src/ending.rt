@@ -31,7 +31,7 @@ pub enum Ending {
 }
 
 /// What becomes of lines that are neither blank nor a command.
-#[derive(Clone, Copy, Debug, PartialEq, Eq)]
+#[derive(Clone, Copy)]
 pub enum WrongLines {
     /// The first of them ends the program.
     End,

@@ -10,7 +10,7 @@ use iceoryx2_file_log::options::FileLogOptions;
 pub const DATABASE: &str = "postgres:";
 
 /// A log in a file or in a database, and how it is used.
-#[derive(Clone, Copy, Debug)]
+#[derive(Clone, Copy)]
 pub struct Place<'a> {
     /// The path of the log's file, or `postgres:` and the name of a log in a database.
     pub at: &'a str,
@@ -23,7 +23,7 @@ pub struct Place<'a> {
 }
 
 /// A log in a database.
-#[derive(Clone, Copy, Debug)]
+#[derive(Clone, Copy)]
 pub struct Database<'a> {
     /// The log's name.
     pub log: &'a str,
@@ -49,7 +49,7 @@ impl<'a> Place<'a> {
 }
 
 /// That the lines of the standard input are to be answered.
-#[derive(Clone, Copy, Debug)]
+#[derive(Clone, Copy)]
 pub struct Run<'a> {
     pub place: Place<'a>,
     /// The node in whose name the lines are. `None` where any will do.
@@ -65,7 +65,7 @@ pub struct Run<'a> {
 }
 
 /// A call whose factory is to be held.
-#[derive(Debug, Drop)]
+#[derive(Drop)]
 pub struct Hold<'a> {
     pub place: Place<'a>,
     /// The node in whose name the call is. `None` where any will do.
@@ -78,7 +78,7 @@ pub struct Hold<'a> {
 }
 
 /// In which form what is looked at is printed.
-#[derive(Clone, Copy, Debug, PartialEq, Eq)]
+#[derive(Clone, Copy)]
 pub enum Form {
     /// Text for people.
     Text,
@@ -91,7 +91,7 @@ pub enum Form {
 }
 
 /// How what is looked at is printed.
-#[derive(Clone, Copy, Debug, PartialEq, Eq)]
+#[derive(Clone, Copy)]
 pub struct Shown {
     pub form: Form,
     /// Whether what is dead is red in a text for people.
@@ -105,14 +105,14 @@ pub const PLAIN: Shown = Shown {
 };
 
 /// A look at a log.
-#[derive(Clone, Copy, Debug)]
+#[derive(Clone, Copy)]
 pub struct Look<'a> {
     pub place: Place<'a>,
     pub shown: Shown,
 }
 
 /// A pattern of messaging, by name alone.
-#[derive(Clone, Copy, Debug, PartialEq, Eq)]
+#[derive(Clone, Copy)]
 pub enum Pattern {
     Event,
     PublishSubscribe,
@@ -121,7 +121,7 @@ pub enum Pattern {
 
 /// Which services are listed: those of which all of this is so. A service that is being created is listed where nothing
 /// is asked for, since neither its name nor its pattern is known.
-#[derive(Clone, Copy, Debug)]
+#[derive(Clone, Copy)]
 pub struct Filter<'a> {
     /// The name has this text in it.
     pub text: Option<&'a str>,
@@ -130,7 +130,7 @@ pub struct Filter<'a> {
 }
 
 /// How the services of a log are listed.
-#[derive(Clone, Copy, Debug)]
+#[derive(Clone, Copy)]
 pub struct Listed<'a> {
     pub shown: Shown,
     /// How many columns of a terminal a line of a table has at most, as far as names can be cut for that. `None` where
@@ -141,7 +141,7 @@ pub struct Listed<'a> {
 }
 
 /// That the services of a log are to be listed.
-#[derive(Clone, Copy, Debug)]
+#[derive(Clone, Copy)]
 pub struct List<'a> {
     pub place: Place<'a>,
     pub listed: Listed<'a>,
@@ -150,7 +150,7 @@ pub struct List<'a> {
 }
 
 /// Which service is wanted.
-#[derive(Clone, Copy, Debug)]
+#[derive(Clone, Copy)]
 pub enum Wanted<'a> {
     /// The one of this name.
     Named(&'a str),
@@ -161,7 +161,7 @@ pub enum Wanted<'a> {
 }
 
 /// A look at one service.
-#[derive(Clone, Copy, Debug)]
+#[derive(Clone, Copy)]
 pub struct Show<'a> {
     pub look: Look<'a>,
     /// Which one.
@@ -169,7 +169,7 @@ pub struct Show<'a> {
 }
 
 /// That what dead nodes have is to be given back.
-#[derive(Clone, Copy, Debug)]
+#[derive(Clone, Copy)]
 pub struct Clean<'a> {
     pub place: Place<'a>,
     /// The node it is for. `None` for each that is dead.
@@ -179,7 +179,7 @@ pub struct Clean<'a> {
 }
 
 /// That the entries of a log are to be printed.
-#[derive(Clone, Copy, Debug)]
+#[derive(Clone, Copy)]
 pub struct LogLook<'a> {
     pub place: Place<'a>,
     /// Whether it waits for more entries.
@@ -189,7 +189,7 @@ pub struct LogLook<'a> {
 }
 
 /// What the words ask for.
-#[derive(Debug, Drop)]
+#[derive(Drop)]
 pub enum Asked<'a> {
     /// Lines are to be answered.
     Run(Run<'a>),

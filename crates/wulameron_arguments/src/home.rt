@@ -22,7 +22,6 @@ const RUNTIME_VARIABLE: &str = "XDG_RUNTIME_DIR";
 const OWN_PROCESS: &str = "/proc/self";
 
 /// The log that no word names.
-#[derive(Debug)]
 pub struct DefaultLog {
     pub path: String,
     /// The folder that has to be this user's. `None` where the environment names the log itself.
@@ -53,7 +52,7 @@ impl DefaultLog {
 }
 
 /// What the environment and the system tell of where a log may lie.
-#[derive(Debug, Drop)]
+#[derive(Drop)]
 struct Surroundings {
     /// The log that is named.
     named: Option<String>,
@@ -135,7 +134,7 @@ fn in_folder(alloc: Global, folder: String) -> Result<DefaultLog, AllocError>
 }
 
 /// Why the folder of the log isn't used.
-#[derive(Clone, Copy, Debug, PartialEq, Eq)]
+#[derive(Clone, Copy)]
 pub enum FolderError {
     /// Another user has it or may change it, or it is no folder.
     NotOwn,

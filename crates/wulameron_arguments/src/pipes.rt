@@ -2,20 +2,19 @@
 
 use std::alloc::Global;
 use std::cell::RefCell;
-use std::fmt;
 use std::fs::{File, OpenOptions};
 use std::io::{self, BufRead, BufReader, Read, Write};
 use std::rt::Files;
 
 /// The pipes to one client: a session of the database, as long as both are open.
-#[derive(Debug, Drop)]
+#[derive(Drop)]
 struct Ends {
     questions: File,
     replies: File,
 }
 
 /// Where the launcher is asked for the pipes to another client, and tells them.
-#[derive(Debug, Drop)]
+#[derive(Drop)]
 struct Again {
     asked: File,
     told: File,
@@ -35,14 +34,8 @@ impl Drop for Pipes {
     }
 }
 
-impl fmt::Debug for Pipes {
-    fn fmt<W: fmt::Write>(&self, f: &mut fmt::Formatter<W>) -> fmt::Result {
-        write!(f, "Pipes")
-    }
-}
-
 /// Why there are no pipes.
-#[derive(Clone, Copy, Debug, PartialEq, Eq)]
+#[derive(Clone, Copy)]
 pub enum PipesError {
     /// The word names neither two files nor four, with colons between them.
     NotPipes,

@@ -14,7 +14,7 @@ use std::rt::{Env, Files};
 const OUTPUT: &str = "/proc/self/fd/1";
 
 /// Where texts for people are printed.
-#[derive(Clone, Copy, Debug, PartialEq, Eq)]
+#[derive(Clone, Copy)]
 pub struct Screen {
     /// Whether the standard output is a terminal.
     pub is_terminal: bool,

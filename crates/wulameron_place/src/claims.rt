@@ -44,7 +44,7 @@ impl Claim {
 }
 
 /// Why a node of a database isn't claimed, or not looked at.
-#[derive(Clone, Copy, Debug, PartialEq, Eq)]
+#[derive(Clone, Copy)]
 pub enum NodeFault {
     /// Another session has it.
     IsAlive { node: u64 },
@@ -81,7 +81,7 @@ impl fmt::Display for NodeFault {
 }
 
 /// Why the file of a node isn't claimed, or not looked at, which is told with what can be done.
-#[derive(Clone, Copy, Debug, PartialEq, Eq)]
+#[derive(Clone, Copy)]
 pub struct TokenTrouble(pub MonitoringFault);
 
 impl fmt::Display for TokenTrouble {
@@ -109,7 +109,7 @@ fn token_advice(fault: FileFault) -> &'static str
 }
 
 /// Why a node isn't claimed, or not looked at.
-#[derive(Debug, Drop)]
+#[derive(Drop)]
 pub enum NodeError {
     File(MonitoringError),
     Database(NodeFault),

@@ -33,7 +33,7 @@ pub const NOT_DEAD: u8 = 1;
 pub const STAYS: &str = "refuses to release what a dead node has; run `wulameron check`";
 
 /// Why there are no nodes to clean up for.
-#[derive(Debug, Drop)]
+#[derive(Drop)]
 pub enum Unfound {
     /// The node that was named isn't dead.
     NotDead(NotDead),
@@ -151,7 +151,7 @@ fn clean_found<F: Files<File = File> + Clock + RandomSource + AllocGlobal, W: Wr
 }
 
 /// Which of some nodes weren't cleaned up for.
-#[derive(Clone, Copy, Debug, PartialEq, Eq)]
+#[derive(Clone, Copy)]
 pub struct Spared {
     /// One at least is alive.
     pub some_alive: bool,
@@ -206,7 +206,7 @@ pub fn clean_nodes<L: Refusing + SpansCalls, D: DeadNodes, W: Write>(
 }
 
 /// What became of a node.
-#[derive(Clone, Copy, Debug, PartialEq, Eq)]
+#[derive(Clone, Copy)]
 pub enum Found {
     /// It isn't dead any more.
     Alive,

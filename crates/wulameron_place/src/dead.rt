@@ -36,7 +36,7 @@ pub trait DeadNodes {
 }
 
 /// Why a node isn't claimed.
-#[derive(Clone, Copy, Debug, PartialEq, Eq)]
+#[derive(Clone, Copy)]
 pub enum Unclaimed {
     /// It is alive, or another has claimed it meanwhile.
     IsAlive,
@@ -61,7 +61,7 @@ fn why_unclaimed(error: &NodeError) -> Unclaimed
 }
 
 /// Why a node that was named isn't cleaned up for.
-#[derive(Clone, Copy, Debug, PartialEq, Eq)]
+#[derive(Clone, Copy)]
 pub enum NotDead {
     /// A process has it.
     IsAlive { node: u64 },

@@ -4,7 +4,7 @@ use crate::trouble::Trouble;
 use negotiate_serve::ending::ServeError;
 
 /// What keeps a program from going on.
-#[derive(Clone, Copy, Debug, PartialEq, Eq)]
+#[derive(Clone, Copy)]
 pub enum Halt {
     /// The input, the output or memory, as in `negotiate`.
     Serving(ServeError),

@@ -33,7 +33,7 @@ fn write_counts(cleaned: Cleaned, text: &mut String) -> Result<(), AllocError>
 }
 
 /// Why it isn't written what would be given back.
-#[derive(Clone, Copy, Debug, PartialEq, Eq)]
+#[derive(Clone, Copy)]
 pub enum RehearsalError {
     /// What this node has can't be given back in this world.
     Refused { node: u64 },

@@ -22,7 +22,7 @@ use std::rt::Files;
 use std::time::Clock;
 
 /// What goes wrong at a log.
-#[derive(Clone, Copy, Debug, PartialEq, Eq)]
+#[derive(Clone, Copy, PartialEq, Eq)]
 pub enum Trouble {
     /// An entry is in the name of this program's node, or isn't what its world answers. Nothing is followed or
     /// appended any more.

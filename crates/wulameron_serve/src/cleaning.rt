@@ -33,7 +33,7 @@ const NOT_WHOLE: &str = "the log can't be read to its end; run `wulameron check`
 // ---- what was given back
 
 /// What was given back, and of how many nodes.
-#[derive(Clone, Copy, Debug, PartialEq, Eq)]
+#[derive(Clone, Copy)]
 pub struct Given {
     pub nodes: u64,
     pub releases: u64,
@@ -127,7 +127,7 @@ fn clean_node<S: WorldStorage, D: DeadNodes>(session: &mut Session<S>, dead: &D,
 }
 
 /// What became of nodes that were dead a moment ago.
-#[derive(Clone, Copy, Debug, PartialEq, Eq)]
+#[derive(Clone, Copy)]
 pub struct Outcome {
     pub given: Given,
     /// One at least is alive.

@@ -19,7 +19,7 @@ use wulameron_arguments::asked::{Hold, PLAIN, Wanted};
 use wulameron_view::looking::{LookError, REFUSED, print, show_in};
 
 /// Why a call isn't held until the input ends, or not given back then.
-#[derive(Clone, Copy, Debug, PartialEq, Eq)]
+#[derive(Clone, Copy)]
 pub enum HoldError {
     /// It is refused.
     Refused(Refusal),

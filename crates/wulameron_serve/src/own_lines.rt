@@ -21,7 +21,7 @@ pub trait OfNode {
 
 /// Lines that are answered so. Where the third term of one is `-`, it is answered as the line is that has the number of
 /// the answerer's node there. Memory is asked for only for such a line.
-#[derive(Clone, Copy, Debug)]
+#[derive(Clone, Copy)]
 pub struct OwnLines<I> {
     pub lines: I,
 }

@@ -16,7 +16,7 @@ const SHORT_REPLY: usize = 256;
 
 /// Lines that are answered so. Where the log can't be used any more after one, the reply tells why, in place of what it
 /// would be.
-#[derive(Clone, Copy, Debug)]
+#[derive(Clone, Copy)]
 pub struct ToldLines<I> {
     pub lines: I,
 }

@@ -22,7 +22,6 @@ use std::alloc::{AllocError, Global};
 use wulameron_view::list_text::term_of;
 
 /// A service that is published.
-#[derive(Debug)]
 pub struct Published {
     pub number: u64,
     pub description: StaticConfig,
@@ -39,7 +38,7 @@ impl Drop for Published {
 }
 
 /// What stands of an entry's service.
-#[derive(Debug, Drop)]
+#[derive(Drop)]
 pub struct Standing {
     /// `None` where it isn't published.
     pub published: Option<Published>,
@@ -48,7 +47,7 @@ pub struct Standing {
 }
 
 /// What happens to a service.
-#[derive(Clone, Copy, Debug, PartialEq, Eq)]
+#[derive(Clone, Copy)]
 pub enum Happening {
     /// It is published. Its creator is in it.
     Created,
@@ -61,7 +60,6 @@ pub enum Happening {
 }
 
 /// What an entry changes.
-#[derive(Debug)]
 pub struct Change {
     pub happening: Happening,
     pub published: Published,

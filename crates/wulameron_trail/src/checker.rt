@@ -19,7 +19,7 @@ use iceoryx2_table::table::stored::StoredWorld;
 use std::alloc::{AllocError, Global};
 
 /// What stands after the last entry of a log that is sound.
-#[derive(Clone, Copy, Debug, PartialEq, Eq)]
+#[derive(Clone, Copy)]
 pub enum Ending {
     /// Nothing.
     Whole,
@@ -30,7 +30,7 @@ pub enum Ending {
 }
 
 /// What is known of a log that is sound.
-#[derive(Clone, Copy, Debug, PartialEq, Eq)]
+#[derive(Clone, Copy)]
 pub struct Sound {
     /// How many entries it has, without a mark.
     pub entries: u64,
@@ -40,7 +40,7 @@ pub struct Sound {
 }
 
 /// What is wrong with a log.
-#[derive(Clone, Copy, Debug, PartialEq, Eq)]
+#[derive(Clone, Copy)]
 pub enum LogFault {
     /// Its first bytes are no header.
     BadHeader(HeaderError),
@@ -55,7 +55,7 @@ pub enum LogFault {
 }
 
 /// The first thing that is wrong with a log.
-#[derive(Clone, Copy, Debug, PartialEq, Eq)]
+#[derive(Clone, Copy)]
 pub struct Found {
     pub wrong: LogFault,
     /// The number of the entry where that is, counted from 0.
@@ -65,7 +65,7 @@ pub struct Found {
 }
 
 /// What a log is.
-#[derive(Clone, Copy, Debug, PartialEq, Eq)]
+#[derive(Clone, Copy)]
 pub enum Verdict {
     Sound(Sound),
     Wrong(Found),

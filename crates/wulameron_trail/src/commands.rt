@@ -297,7 +297,7 @@ fn verdict_status(verdict: Verdict) -> u8
 }
 
 /// An entry that isn't followed.
-#[derive(Clone, Copy, Debug)]
+#[derive(Clone, Copy)]
 struct NotAnswered {
     /// Whether it is a byte or a row where it begins.
     unit: &'static str,

@@ -277,7 +277,7 @@ fn look_on<S: Source, P: Follows, W: Write>(
 /// Whether what stopped a look may be gone at the next one: damage where there was none before may be half of what a
 /// writer cuts off and writes anew.
 fn is_passing(stop: Stop, at: u64, damaged_at: Option<u64>) -> bool {
-    stop == Stop::Damaged && damaged_at != Some(at)
+    matches!(stop, Stop::Damaged) && damaged_at != Some(at)
 }
 
 /// Shows a log's entries as they come, until a pause ends it. What is written before that is shown.

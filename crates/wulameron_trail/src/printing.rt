@@ -18,7 +18,7 @@ use std::io::{Read, Write};
 use std::ops::ControlFlow;
 
 /// What is left of a log's bytes where its entries were shown.
-#[derive(Debug, Drop)]
+#[derive(Drop)]
 pub enum Rest {
     /// Nothing, or what a writer leaves that died, or has not written whole yet.
     Ended,

@@ -15,7 +15,7 @@ use iceoryx2_table::table::stored::StoredWorld;
 use std::alloc::{AllocError, Global};
 
 /// Shows each entry by a line of its own.
-#[derive(Clone, Copy, Debug)]
+#[derive(Clone, Copy)]
 pub struct Lines {
     /// The number of the next entry in its log, from 0 on.
     pub place: u64,

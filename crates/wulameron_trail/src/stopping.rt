@@ -8,7 +8,7 @@ use std::alloc::AllocError;
 use wulameron_place::trouble::Trouble;
 
 /// Why no more of a log is shown.
-#[derive(Clone, Copy, Debug, PartialEq, Eq)]
+#[derive(Clone, Copy)]
 pub enum Stop {
     /// What stands there is no entry, and nothing that a writer leaves that died.
     Damaged,
@@ -21,7 +21,7 @@ pub enum Stop {
 }
 
 /// Why an entry isn't shown.
-#[derive(Clone, Copy, Debug, PartialEq, Eq)]
+#[derive(Clone, Copy)]
 pub enum ShowError {
     /// There was no memory.
     OutOfMemory,

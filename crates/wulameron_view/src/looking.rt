@@ -33,7 +33,7 @@ use wulameron_place::trouble::Refusing;
 pub const REFUSED: u8 = 1;
 
 /// Why nothing, or not all, is printed.
-#[derive(Clone, Copy, Debug, PartialEq, Eq)]
+#[derive(Clone, Copy)]
 pub enum LookError {
     /// The log can't be held or read, or not be followed.
     Unread,

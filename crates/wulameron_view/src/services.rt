@@ -21,7 +21,7 @@ use std::alloc::{AllocError, Global};
 use std::cmp::Ordering;
 
 /// A node that is in a service.
-#[derive(Clone, Copy, Debug, PartialEq, Eq)]
+#[derive(Clone, Copy)]
 pub struct Member {
     pub node: u64,
     /// How many factories of the service it has.
@@ -29,7 +29,6 @@ pub struct Member {
 }
 
 /// A service that is published.
-#[derive(Debug)]
 pub struct Service {
     pub hash: ServiceHash,
     pub number: u64,
@@ -54,7 +53,7 @@ impl Drop for Service {
 }
 
 /// A service that is being created: nothing but its hash and its number is known.
-#[derive(Clone, Copy, Debug, PartialEq, Eq)]
+#[derive(Clone, Copy)]
 pub struct Creation {
     pub hash: ServiceHash,
     pub number: u64,
@@ -63,7 +62,7 @@ pub struct Creation {
 }
 
 /// The services of a world.
-#[derive(Debug, Drop)]
+#[derive(Drop)]
 pub struct Services {
     /// By the bytes of the name, then by pattern, then by hash.
     pub published: Vec<Service>,

@@ -14,7 +14,7 @@ use std::fmt;
 use std::marker::Model;
 
 /// A value that was agreed.
-#[derive(Clone, Copy, Debug)]
+#[derive(Clone, Copy)]
 pub enum Value {
     Number(u64),
     Truth(bool),
@@ -52,7 +52,7 @@ impl fmt::Display for Value {
 }
 
 /// A setting with what was agreed, and whether that differs from what a create has that isn't given it.
-#[derive(Debug, Drop)]
+#[derive(Drop)]
 pub struct Setting {
     name: &'static str,
     value: Value,

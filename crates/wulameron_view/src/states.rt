@@ -12,7 +12,7 @@ use iceoryx2_table::table::stored::StoredWorld;
 use std::alloc::{AllocError, Global};
 
 /// How a node stands.
-#[derive(Clone, Copy, Debug, PartialEq, Eq)]
+#[derive(Clone, Copy)]
 pub enum Standing {
     /// A process has it.
     Alive,
@@ -25,7 +25,7 @@ pub enum Standing {
 }
 
 /// A node, and how it stands.
-#[derive(Clone, Copy, Debug, PartialEq, Eq)]
+#[derive(Clone, Copy)]
 pub struct NodeStanding {
     pub node: u64,
     pub standing: Standing,
