@@ -62,7 +62,7 @@ fn serve(
         Over::Explain => explain(alloc, input, page, Format::Lines),
         Over::Diagram => explain(alloc, input, page, Format::Diagram),
         Over::Replies => reply(alloc, WrongLines::Reply, input, page),
-        Over::Apart => reply(alloc, WrongLines::ReplyApart, input, page),
+        Over::Apart => reply(alloc, WrongLines::ReplyAndEmptyLine, input, page),
         _ => negotiate(alloc, input, page),
     }
 }

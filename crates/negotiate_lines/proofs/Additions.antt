@@ -9,7 +9,7 @@ use Rattle.iceoryx2_attribute.specs.Requirements.{Requirements}
 use Rattle.iceoryx2_attribute.specs.declared.attribute.AttributeError.TheVariants as attribute_error
 use Rattle.negotiate_lines.specs.declared.leaf.Form.{Form}
 use Rattle.negotiate_lines.specs.declared.line_error.LineFailure.{LineFailure}
-use Rattle.negotiate_lines.specs.declared.line_error.LineFailure.TheVariants as flaw
+use Rattle.negotiate_lines.specs.declared.line_error.LineFailure.TheVariants as failure
 use Rattle.negotiate_lines.specs.declared.line_error.LineError.{LineError}
 use Rattle.negotiate_lines.specs.declared.line_error.LineError.TheVariants as wrong
 use Rattle.negotiate_lines.specs.Leaves.{IsLeaf}
@@ -23,11 +23,11 @@ pub broken : {B : Type 0} (form : Form) (leaf : List ℕ) (Q : B → Type 0) (W 
     → ((LeafText form leaf → ⊥) → (b : B) → Q b → ⊥)
     → ((LeafText form leaf → ⊥) → (t : Bor (List ℕ)) → t.now ≡ leaf → W (wrong.BrokenLeaf t)) → Judges Q W r
 broken form leaf Q W e (Ok b) is judged none also = absurd is
-broken {B = B} form leaf Q W (flaw.Wrong w) (Err f) is judged none also =
+broken {B = B} form leaf Q W (failure.Wrong w) (Err f) is judged none also =
     let no_text : LeafText form leaf → ⊥ = λ text. judged.0 text.0 text.1 in
     subst (λ (x : LineFailure). Judges {A = B} Q W (Err x)) (sym is)
     (none no_text, subst W (sym judged.1.2) (also no_text judged.1.0 judged.1.1))
-broken {B = B} form leaf Q W flaw.OutOfMemory (Err f) is judged none also = subst (λ (x : LineFailure). Judges {A = B} Q W (Err x)) (sym is) tt
+broken {B = B} form leaf Q W failure.OutOfMemory (Err f) is judged none also = subst (λ (x : LineFailure). Judges {A = B} Q W (Err x)) (sym is) tt
 
 -- the same where what it is a part of stays in its place
 pub broken_in_place : {B : Type 0} (form : Form) (leaf : List ℕ) (Q : B → Type 0) (W : LineError → Type 0) (e : LineFailure) (b : B)

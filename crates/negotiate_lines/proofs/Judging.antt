@@ -9,7 +9,7 @@ use Rattle.iceoryx2_types.specs.Texts.{IsText}
 use Rattle.iceoryx2_description.specs.Names.{IsName}
 use Rattle.negotiate_lines.specs.declared.leaf.Form.{Form}
 use Rattle.negotiate_lines.specs.declared.line_error.LineFailure.{LineFailure}
-use Rattle.negotiate_lines.specs.declared.line_error.LineFailure.TheVariants as flaw
+use Rattle.negotiate_lines.specs.declared.line_error.LineFailure.TheVariants as failure
 use Rattle.negotiate_lines.specs.declared.line_error.LineError.{LineError}
 use Rattle.negotiate_lines.specs.declared.line.NamedCall.{NamedCall}
 use Rattle.negotiate_lines.specs.Leaves.{IsLeaf}
@@ -27,18 +27,18 @@ pub passed : {A B : Type 0} (P : A → Type 0) (Q : B → Type 0) (V W : LineErr
     → IsErrAnd r (λ f. f ≡ e) → Judges P V (Err e) → (((a : A) → P a → ⊥) → (b : B) → Q b → ⊥)
     → ((w : LineError) → V w → W w) → Judges Q W r
 passed P Q V W e (Ok b) is judged none also = absurd is
-passed {B = B} P Q V W (flaw.Wrong w) (Err f) is judged none also =
+passed {B = B} P Q V W (failure.Wrong w) (Err f) is judged none also =
     subst (λ (x : LineFailure). Judges {A = B} Q W (Err x)) (sym is) (none judged.0, also w judged.1)
-passed {B = B} P Q V W flaw.OutOfMemory (Err f) is judged none also = subst (λ (x : LineFailure). Judges {A = B} Q W (Err x)) (sym is) tt
+passed {B = B} P Q V W failure.OutOfMemory (Err f) is judged none also = subst (λ (x : LineFailure). Judges {A = B} Q W (Err x)) (sym is) tt
 
 pub passed_first : {A B : Type 0} (IsFirst : List ℕ → A → Type 0) (V : List (List ℕ) → LineError → Type 0) (terms : List (List ℕ)) (Q : B → Type 0) (W : LineError → Type 0)
     (e : LineFailure) (r : Result B LineFailure) → IsErrAnd r (λ f. f ≡ e) → JudgesFirst IsFirst V terms (Err e)
     → (((a : A) (rest : List (List ℕ)) → Begins IsFirst terms a rest → ⊥) → (b : B) → Q b → ⊥)
     → ((w : LineError) → V terms w → W w) → Judges Q W r
 passed_first IsFirst V terms Q W e (Ok b) is judged none also = absurd is
-passed_first {B = B} IsFirst V terms Q W (flaw.Wrong w) (Err f) is judged none also =
+passed_first {B = B} IsFirst V terms Q W (failure.Wrong w) (Err f) is judged none also =
     subst (λ (x : LineFailure). Judges {A = B} Q W (Err x)) (sym is) (none judged.0, also w judged.1)
-passed_first {B = B} IsFirst V terms Q W flaw.OutOfMemory (Err f) is judged none also = subst (λ (x : LineFailure). Judges {A = B} Q W (Err x)) (sym is) tt
+passed_first {B = B} IsFirst V terms Q W failure.OutOfMemory (Err f) is judged none also = subst (λ (x : LineFailure). Judges {A = B} Q W (Err x)) (sym is) tt
 
 -- ---- lists
 

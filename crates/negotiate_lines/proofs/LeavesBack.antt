@@ -12,7 +12,7 @@ use Rattle.percent_encoding.proofs.AsciiSetLemmas.{escaped_from_inside}
 use Rattle.percent_encoding.proofs.PercentLemmas.{percent_encode-nil, percent_encode_escaped, percent_encode_kept, round_trip}
 use Rattle.negotiate_lines.specs.declared.leaf.Form.{Form}
 use Rattle.negotiate_lines.specs.declared.leaf.Form.TheVariants as form
-use Rattle.negotiate_lines.specs.declared.leaf.TheConstants.{APART}
+use Rattle.negotiate_lines.specs.declared.leaf.TheConstants.{LEAF_ESCAPES}
 use Rattle.negotiate_lines.proofs.LeavesUtf8.{AreBytes, are_bytes}
 use Rattle.negotiate_lines.specs.Leaves.{IsLeaf, bytes_of, go_on, are_whole, leaf_of}
 
@@ -26,20 +26,20 @@ whole_escape b rest =
     let low = glyph_is_digit (b % 16) (omega arith) in
     rw (high, low) refl
 
-whole_kept : (b : ℕ) (rest : List ℕ) → should_percent_encode APART b ≡ false → go_on 0 (b ∷ rest) ≡ go_on 0 rest
+whole_kept : (b : ℕ) (rest : List ℕ) → should_percent_encode LEAF_ESCAPES b ≡ false → go_on 0 (b ∷ rest) ≡ go_on 0 rest
 unfolding go_on
 whole_kept b rest kept =
-    let other : b ≡ 37 → ⊥ = λ percent. both_ways _ kept (rw percent (escaped_from_inside APART 37 refl)) in
+    let other : b ≡ 37 → ⊥ = λ percent. both_ways _ kept (rw percent (escaped_from_inside LEAF_ESCAPES 37 refl)) in
     rw (ne_eqb b 37 other) refl
 
-whole : (bytes : List ℕ) → are_whole (percent_encode APART bytes) ≡ true
+whole : (bytes : List ℕ) → are_whole (percent_encode LEAF_ESCAPES bytes) ≡ true
 unfolding go_on
 whole [] = rw percent_encode-nil refl
 whole (b ∷ bytes) =
     ⊎_elim
-    (λ e. rw (percent_encode_escaped APART b bytes e) (whole_escape b (percent_encode APART bytes) ∙ whole bytes))
-    (λ e. rw (percent_encode_kept APART b bytes e) (whole_kept b (percent_encode APART bytes) e ∙ whole bytes))
-    (cases_Bool (should_percent_encode APART b))
+    (λ e. rw (percent_encode_escaped LEAF_ESCAPES b bytes e) (whole_escape b (percent_encode LEAF_ESCAPES bytes) ∙ whole bytes))
+    (λ e. rw (percent_encode_kept LEAF_ESCAPES b bytes e) (whole_kept b (percent_encode LEAF_ESCAPES bytes) e ∙ whole bytes))
+    (cases_Bool (should_percent_encode LEAF_ESCAPES b))
 
 lone_is_broken : go_on 0 (37 ∷ []) ≡ true → ⊥
 unfolding go_on
@@ -62,8 +62,8 @@ bytes_back : (bytes : List ℕ) → AreBytes bytes → bytes_of (leaf_of bytes) 
 unfolding leaf_of
 bytes_back [] small = refl
 bytes_back (b ∷ bytes) small =
-    cond-false _ _ _ (not_lone (percent_encode APART (b ∷ bytes)) (whole (b ∷ bytes)))
-    ∙ cond-true _ _ _ (whole (b ∷ bytes)) ∙ ap (λ (w : List ℕ). Some w) (round_trip APART (b ∷ bytes) refl small)
+    cond-false _ _ _ (not_lone (percent_encode LEAF_ESCAPES (b ∷ bytes)) (whole (b ∷ bytes)))
+    ∙ cond-true _ _ _ (whole (b ∷ bytes)) ∙ ap (λ (w : List ℕ). Some w) (round_trip LEAF_ESCAPES (b ∷ bytes) refl small)
 
 pub back : (text : List ℕ) → IsUtf8 text → IsLeaf form.Escaped (leaf_of text) text
 back text is = (bytes_back text (are_bytes text is), is)
@@ -88,7 +88,7 @@ unfolding leaf_of
 no_bytes [] none = refl
 no_bytes (b ∷ bytes) none = absurd (grind (arith, nat_tests, none))
 
-pub some_bytes : (bytes : List ℕ) → (length bytes == 0) ≡ false → percent_encode APART bytes ≡ leaf_of bytes
+pub some_bytes : (bytes : List ℕ) → (length bytes == 0) ≡ false → percent_encode LEAF_ESCAPES bytes ≡ leaf_of bytes
 unfolding leaf_of
 some_bytes [] some = absurd (grind (arith, nat_tests, some))
 some_bytes (b ∷ bytes) some = refl

@@ -6,7 +6,7 @@ use Rattle.percent_encoding.proofs.AsciiSetLemmas.{ascii_from_kept}
 use Rattle.std.proofs.lemmas.List.Elements.{All-nil, All-cons}
 use Rattle.percent_encoding.proofs.PercentLemmas.{All-percent_encode, IsEscapeByte, percent_encode_nonempty}
 use Rattle.percent_encoding.proofs.OnLiterals.{percent_encoding_on_literals}
-use Rattle.negotiate_lines.specs.declared.leaf.TheConstants.{APART}
+use Rattle.negotiate_lines.specs.declared.leaf.TheConstants.{LEAF_ESCAPES}
 use Rattle.negotiate_lines.specs.Leaves.{IsPlain, leaf_of}
 
 abbrev is_plain : ℕ → Bool
@@ -33,7 +33,7 @@ below (suc n) test all b small =
     (last_or_less b n small)
 
 is_kept_or_not : ℕ → Bool
-is_kept_or_not b = should_percent_encode APART b || is_plain b
+is_kept_or_not b = should_percent_encode LEAF_ESCAPES b || is_plain b
 
 all_told : all_below 128 is_kept_or_not ≡ true
 unfolding all_below is_kept_or_not percent_encoding_on_literals
@@ -45,11 +45,11 @@ plain_from_test b h = grind (arith, nat_tests)
 or_false : (a b : Bool) → (a || b) ≡ true → a ≡ false → b ≡ true
 or_false a b h e = grind (arith, nat_tests)
 
-plain_from_kept : (b : ℕ) → should_percent_encode APART b ≡ false → IsPlain b
+plain_from_kept : (b : ℕ) → should_percent_encode LEAF_ESCAPES b ≡ false → IsPlain b
 unfolding is_kept_or_not
 plain_from_kept b kept =
-    plain_from_test b (or_false (should_percent_encode APART b) (is_plain b)
-    (below 128 is_kept_or_not all_told b (ascii_from_kept APART b kept)) kept)
+    plain_from_test b (or_false (should_percent_encode LEAF_ESCAPES b) (is_plain b)
+    (below 128 is_kept_or_not all_told b (ascii_from_kept LEAF_ESCAPES b kept)) kept)
 
 plain_from_escape : (b : ℕ) → IsEscapeByte b → IsPlain b
 plain_from_escape b h = record {
@@ -66,9 +66,9 @@ plain_percent = plain_from_escape 37 (inl refl)
 pub plain : (bytes : List ℕ) → All IsPlain (leaf_of bytes)
 unfolding leaf_of
 plain [] = All-cons IsPlain 37 [] plain_percent (All-nil IsPlain)
-plain (b ∷ bytes) = All-percent_encode IsPlain APART (b ∷ bytes) plain_from_kept plain_from_escape
+plain (b ∷ bytes) = All-percent_encode IsPlain LEAF_ESCAPES (b ∷ bytes) plain_from_kept plain_from_escape
 
 pub some : (bytes : List ℕ) → 0 < length (leaf_of bytes)
 unfolding leaf_of
 some [] = omega arith
-some (b ∷ bytes) = percent_encode_nonempty APART (b ∷ bytes) (omega arith)
+some (b ∷ bytes) = percent_encode_nonempty LEAF_ESCAPES (b ∷ bytes) (omega arith)

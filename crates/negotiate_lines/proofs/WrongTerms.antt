@@ -10,7 +10,7 @@ use Rattle.negotiate_lines.specs.declared.call_term.CallTerm.{CallTerm}
 use Rattle.negotiate_lines.specs.declared.term.TermError.{TermError}
 use Rattle.negotiate_lines.specs.declared.term.TermError.TheVariants as error
 use Rattle.negotiate_lines.specs.declared.line_error.LineFailure.{LineFailure}
-use Rattle.negotiate_lines.specs.declared.line_error.LineFailure.TheVariants as flaw
+use Rattle.negotiate_lines.specs.declared.line_error.LineFailure.TheVariants as failure
 use Rattle.negotiate_lines.specs.declared.vocabulary.Kind.{Kind}
 use Rattle.negotiate_lines.specs.Terms.{AreAround}
 use Rattle.negotiate_lines.specs.Values.{IsClockTerm}
@@ -25,12 +25,12 @@ module _ {S : Type 0} (form : Form) (v : Vocabulary S) (h : How) (old : Argument
   pub follows_judged : (instruction : Instruction S) → IsInstructionOf form v (admitted_of v.has_clock h) term instruction → (r : Result (Arguments S) LineFailure)
       → Judges (Follows form old instruction) (WrongStep form old instruction) r → Judges (TakesTerm form v (admitted_of v.has_clock h) old term) (WrongTerm form v h old term) r
   follows_judged instruction is_such (Ok new) follows = (instruction, is_such, follows)
-  follows_judged instruction is_such (Err (flaw.Wrong w)) judged = (
+  follows_judged instruction is_such (Err (failure.Wrong w)) judged = (
     λ new taken.
         judged.0 new (subst (λ (i : Instruction S). Follows form old i new) (one_instruction form v (admitted_of v.has_clock h) term taken.0 instruction taken.1 is_such) taken.2),
     refused instruction is_such judged.1,
   )
-  follows_judged instruction is_such (Err flaw.OutOfMemory) judged = tt
+  follows_judged instruction is_such (Err failure.OutOfMemory) judged = tt
 
 -- what is malformed means nothing
 pub malformed : {S : Type 0} (IsSuch : Instruction S → Type 0) (r : Result (CallTerm S) TermError) (e : TermError) → r ≡ Err e → e ≡ error.Malformed

@@ -6,7 +6,7 @@ use Rattle.std.specs.Str.{IsUtf8}
 use Rattle.percent_encoding.specs.Percent.{percent_encode, percent_decode}
 use Rattle.negotiate_lines.specs.declared.leaf.Form.{Form}
 use Rattle.negotiate_lines.specs.declared.leaf.Form.TheVariants as form
-use Rattle.negotiate_lines.specs.declared.leaf.TheConstants.{APART}
+use Rattle.negotiate_lines.specs.declared.leaf.TheConstants.{LEAF_ESCAPES}
 
 -- How many hexadecimal digits are awaited behind a byte, where so many are before it. None where it is no digit.
 abbrev pub digits_after : ℕ → ℕ → Option ℕ
@@ -27,7 +27,7 @@ are_whole word = go_on 0 word
 -- bytes as a leaf: what parts words, terms and values is escaped, and none are `%`
 unfoldable pub leaf_of : List ℕ → List ℕ
 leaf_of [] = codes "%"
-leaf_of (b ∷ bytes) = percent_encode APART (b ∷ bytes)
+leaf_of (b ∷ bytes) = percent_encode LEAF_ESCAPES (b ∷ bytes)
 
 -- the bytes that a leaf stands for, where its escapes are whole
 abbrev pub bytes_of : List ℕ → Option (List ℕ)

@@ -20,37 +20,37 @@ kind_text kind.Alignment = codes "a power of two below 2^64"
 kind_text kind.Type = codes "<fixed or dynamic>,<name>,<size>,<alignment>"
 
 -- the text of each, without a hint; each word of the line is escaped and cut
-abbrev pub flaw_text : LineError → List ℕ
-flaw_text wrong.NotUtf8 = codes "not UTF-8"
-flaw_text (wrong.NoSuchCommand term) = shown term.now ++ codes ": no such command"
-flaw_text (wrong.BehindList term) = shown term.now ++ codes ": nothing stands behind list"
-flaw_text (wrong.BehindSlot term) = shown term.now ++ codes ": nothing stands behind the slot of a close"
-flaw_text wrong.NoCall = codes "no call; it is create, open or open_or_create"
-flaw_text (wrong.NoSuchCall term) = shown term.now ++ codes ": no such call"
-flaw_text wrong.NoNode = codes "no node; it is a number below 2^64"
-flaw_text (wrong.NoNodeNumber term) = codes "node " ++ (shown term.now ++ codes ": a number below 2^64")
-flaw_text wrong.NoSlot = codes "no slot; it is a number from 0 to 63"
-flaw_text (wrong.NoSlotNumber term) = codes "slot " ++ (shown term.now ++ codes ": a number from 0 to 63")
-flaw_text (wrong.SlotTooGreat term) = codes "slot " ++ (shown term.now ++ codes ": at most 63")
-flaw_text wrong.NoName = codes "no name"
-flaw_text (wrong.BrokenLeaf term) = shown term.now ++ codes ": a % stands before two digits of a byte of UTF-8"
-flaw_text (wrong.NameLength term) = codes "name " ++ (shown term.now ++ codes ": 1 to 255 bytes")
-flaw_text (wrong.NoEqualsSign term) = shown term.now ++ codes ": no =; it is <setting>=<value>"
-flaw_text (wrong.NoSuchSetting name pattern settings admitted) =
+abbrev pub reason_text : LineError → List ℕ
+reason_text wrong.NotUtf8 = codes "not UTF-8"
+reason_text (wrong.NoSuchCommand term) = shown term.now ++ codes ": no such command"
+reason_text (wrong.BehindList term) = shown term.now ++ codes ": nothing stands behind list"
+reason_text (wrong.BehindSlot term) = shown term.now ++ codes ": nothing stands behind the slot of a close"
+reason_text wrong.NoCall = codes "no call; it is create, open or open_or_create"
+reason_text (wrong.NoSuchCall term) = shown term.now ++ codes ": no such call"
+reason_text wrong.NoNode = codes "no node; it is a number below 2^64"
+reason_text (wrong.NoNodeNumber term) = codes "node " ++ (shown term.now ++ codes ": a number below 2^64")
+reason_text wrong.NoSlot = codes "no slot; it is a number from 0 to 63"
+reason_text (wrong.NoSlotNumber term) = codes "slot " ++ (shown term.now ++ codes ": a number from 0 to 63")
+reason_text (wrong.SlotTooGreat term) = codes "slot " ++ (shown term.now ++ codes ": at most 63")
+reason_text wrong.NoName = codes "no name"
+reason_text (wrong.BrokenLeaf term) = shown term.now ++ codes ": a % stands before two digits of a byte of UTF-8"
+reason_text (wrong.NameLength term) = codes "name " ++ (shown term.now ++ codes ": 1 to 255 bytes")
+reason_text (wrong.NoEqualsSign term) = shown term.now ++ codes ": no =; it is <setting>=<value>"
+reason_text (wrong.NoSuchSetting name pattern settings admitted) =
     shown name.now ++ (codes ": no such setting of " ++ pattern.now)
-flaw_text (wrong.Value name value kind) = shown name.now ++ (codes "="
+reason_text (wrong.Value name value kind) = shown name.now ++ (codes "="
     ++ (shown value.now ++ (codes ": " ++ (shown name.now ++ (codes " is " ++ kind_text kind)))))
-flaw_text (wrong.NoTime value) =
+reason_text (wrong.NoTime value) =
     codes "now=" ++ (shown value.now ++ codes ": now is <seconds>,<nanoseconds>, or fault")
-flaw_text wrong.NowWithOpen = codes "now: not with open"
-flaw_text (wrong.NowOfPattern pattern) = codes "now: not with " ++ pattern.now
-flaw_text wrong.KeyWithCreate = codes "require_key: not with create"
-flaw_text (wrong.NoColon value) = codes "attribute=" ++ (shown value.now ++ codes ": an attribute is <key>:<value>")
-flaw_text (wrong.KeyLength key) = codes "key " ++ (shown key.now ++ codes ": 1 to 64 bytes")
-flaw_text (wrong.ValueLength value) = codes "value " ++ (shown value.now ++ codes ": at most 256 bytes")
-flaw_text (wrong.TooManyPairs key value) =
+reason_text wrong.NowWithOpen = codes "now: not with open"
+reason_text (wrong.NowOfPattern pattern) = codes "now: not with " ++ pattern.now
+reason_text wrong.KeyWithCreate = codes "require_key: not with create"
+reason_text (wrong.NoColon value) = codes "attribute=" ++ (shown value.now ++ codes ": an attribute is <key>:<value>")
+reason_text (wrong.KeyLength key) = codes "key " ++ (shown key.now ++ codes ": 1 to 64 bytes")
+reason_text (wrong.ValueLength value) = codes "value " ++ (shown value.now ++ codes ": at most 256 bytes")
+reason_text (wrong.TooManyPairs key value) =
     codes "attribute=" ++ (shown key.now ++ (codes ":" ++ (shown value.now ++ codes ": at most 64 different pairs")))
-flaw_text (wrong.TooManyKeys key) = codes "require_key=" ++ (shown key.now ++ codes ": at most 64 different keys")
+reason_text (wrong.TooManyKeys key) = codes "require_key=" ++ (shown key.now ++ codes ": at most 64 different keys")
 
 -- ---- hints
 
@@ -84,4 +84,4 @@ IsHint _ hint = hint ≡ []
 
 -- The text is what is wrong, and a hint behind it.
 abbrev pub IsWrongText : LineError → List ℕ → Type 0
-IsWrongText w text = (hint : List ℕ) × IsHint w hint × (text ≡ flaw_text w ++ hint)
+IsWrongText w text = (hint : List ℕ) × IsHint w hint × (text ≡ reason_text w ++ hint)

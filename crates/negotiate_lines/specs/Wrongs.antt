@@ -19,7 +19,7 @@ use Rattle.negotiate_lines.specs.declared.leaf.Form.{Form}
 use Rattle.negotiate_lines.specs.declared.vocabulary.Admitted.{Admitted}
 use Rattle.negotiate_lines.specs.declared.vocabulary.Kind.{Kind}
 use Rattle.negotiate_lines.specs.declared.line_error.LineFailure.{LineFailure}
-use Rattle.negotiate_lines.specs.declared.line_error.LineFailure.TheVariants as flaw
+use Rattle.negotiate_lines.specs.declared.line_error.LineFailure.TheVariants as failure
 use Rattle.negotiate_lines.specs.declared.line_error.LineError.{LineError}
 use Rattle.negotiate_lines.specs.declared.line_error.LineError.TheVariants as wrong
 use Rattle.negotiate_lines.specs.SettingTerms.{event_vocabulary, publish_subscribe_vocabulary}
@@ -195,8 +195,8 @@ pub data IsWrong (form : Form) (bytes : List ℕ) : LineError → Type 0 where
 -- What is found is such. Else nothing is such, and this is what is wrong. Memory may run out.
 abbrev pub Judges : {A : Type 0} → (A → Type 0) → (LineError → Type 0) → Result A LineFailure → Type 0
 Judges IsSuch Wrongs (Ok a) = IsSuch a
-Judges {A = A} IsSuch Wrongs (Err (flaw.Wrong w)) = ((a : A) → IsSuch a → ⊥) × Wrongs w
-Judges IsSuch Wrongs (Err flaw.OutOfMemory) = Unit {0}
+Judges {A = A} IsSuch Wrongs (Err (failure.Wrong w)) = ((a : A) → IsSuch a → ⊥) × Wrongs w
+Judges IsSuch Wrongs (Err failure.OutOfMemory) = Unit {0}
 
 -- Terms begin with one that means this, and these stand behind it.
 abbrev pub Begins : {A : Type 0} → (List ℕ → A → Type 0) → (terms : List (List ℕ)) → A → (rest : List (List ℕ))
@@ -207,18 +207,18 @@ Begins IsFirst terms a rest = (term : List ℕ) × (terms ≡ term ∷ rest) × 
 abbrev pub JudgesFirst : {A : Type 0} → (List ℕ → A → Type 0) → (List (List ℕ) → LineError → Type 0)
     → (terms : List (List ℕ)) → Result (A × Bor (List ℕ)) LineFailure → Type 0
 JudgesFirst IsFirst Wrongs terms (Ok found) = Begins IsFirst terms found.0 (terms_of found.1.now)
-JudgesFirst {A = A} IsFirst Wrongs terms (Err (flaw.Wrong w)) =
+JudgesFirst {A = A} IsFirst Wrongs terms (Err (failure.Wrong w)) =
     ((a : A) (rest : List (List ℕ)) → Begins IsFirst terms a rest → ⊥) × Wrongs terms w
-JudgesFirst IsFirst Wrongs terms (Err flaw.OutOfMemory) = Unit {0}
+JudgesFirst IsFirst Wrongs terms (Err failure.OutOfMemory) = Unit {0}
 
 -- It is told that something is wrong, with this leaf.
 abbrev pub TellsOf : (Bor (List ℕ) → LineError) → (leaf : List ℕ) → Result (Unit {0}) LineFailure → Type 0
-TellsOf wrong_of leaf told = (t : Bor (List ℕ)) × (t.now ≡ leaf) × (told ≡ Err (flaw.Wrong (wrong_of t)))
+TellsOf wrong_of leaf told = (t : Bor (List ℕ)) × (t.now ≡ leaf) × (told ≡ Err (failure.Wrong (wrong_of t)))
 
 -- what is told of a pair of these leaves, by what is answered where it is put among others
 abbrev pub IsPairAnswer : Answer → (key value : List ℕ) → Result (Unit {0}) LineFailure → Type 0
 IsPairAnswer (Ok added) key value told = told ≡ Ok tt
-IsPairAnswer (Err attribute_error.OutOfMemory) key value told = told ≡ Err flaw.OutOfMemory
+IsPairAnswer (Err attribute_error.OutOfMemory) key value told = told ≡ Err failure.OutOfMemory
 IsPairAnswer (Err attribute_error.KeyLength) key value told = TellsOf wrong.KeyLength key told
 IsPairAnswer (Err attribute_error.ValueLength) key value told = TellsOf wrong.ValueLength value told
 IsPairAnswer (Err attribute_error.TooMany) key value told =
@@ -227,7 +227,7 @@ IsPairAnswer (Err attribute_error.TooMany) key value told =
 -- the same of a key, which has no value
 abbrev pub IsKeyAnswer : Answer → (key : List ℕ) → Result (Unit {0}) LineFailure → Type 0
 IsKeyAnswer (Ok added) key told = told ≡ Ok tt
-IsKeyAnswer (Err attribute_error.OutOfMemory) key told = told ≡ Err flaw.OutOfMemory
+IsKeyAnswer (Err attribute_error.OutOfMemory) key told = told ≡ Err failure.OutOfMemory
 IsKeyAnswer (Err attribute_error.TooMany) key told = TellsOf wrong.TooManyKeys key told
 IsKeyAnswer (Err attribute_error.KeyLength) key told = TellsOf wrong.KeyLength key told
 IsKeyAnswer (Err attribute_error.ValueLength) key told = TellsOf wrong.KeyLength key told

@@ -27,7 +27,9 @@ pub enum Form {
 }
 
 /// The bytes of ASCII that stand escaped: controls, the blank, and what parts words, terms and values.
-pub const APART: AsciiSet = ascii_set!(CONTROLS.add(b' ').add(b'%').add(b',').add(b':').add(b'='));
+pub const LEAF_ESCAPES: AsciiSet = ascii_set!(
+    CONTROLS.add(b' ').add(b'%').add(b',').add(b':').add(b'=')
+);
 
 /// Appends bytes as a leaf of an escaped line. `AllocError` where the text finds no memory; it may have a part of them
 /// then.
@@ -37,7 +39,7 @@ pub fn escape_leaf(bytes: &[u8], text: &mut String) -> Result<(), AllocError>
     if bytes.is_empty() {
         return text.push_str("%");
     }
-    percent_encode(bytes, APART).append_to(text)
+    percent_encode(bytes, LEAF_ESCAPES).append_to(text)
 }
 
 /// Whether each `%` stands before two hexadecimal digits.

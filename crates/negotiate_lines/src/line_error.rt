@@ -80,9 +80,9 @@ pub(crate) enum LineFailure<'a> {
 
 impl From<AllocError> for LineFailure<'_> {
     ghost use Rattle.std.specs.Prelude.{◌≡◌};
-    ghost use Rattle.negotiate_lines.specs.declared.line_error.LineFailure.TheVariants as flaw;
+    ghost use Rattle.negotiate_lines.specs.declared.line_error.LineFailure.TheVariants as failure;
 
-    ghost from_gives = { λ _ given. given ≡ flaw.OutOfMemory };
+    ghost from_gives = { λ _ given. given ≡ failure.OutOfMemory };
 
     fn from(_error: AllocError) -> Self {
         LineFailure::OutOfMemory

@@ -3,7 +3,7 @@
 ghost use Rattle.std.specs.Prelude.{◌≡◌, ◌++◌, ℕ, List, IfOk, OnOk, map, string_bytes};
 ghost use Rattle.negotiate_lines.specs.Escapes.{shown};
 ghost use Rattle.negotiate_lines.specs.Nearest.{Suggests, now_of};
-ghost use Rattle.negotiate_lines.specs.WrongTexts.{IsHint, IsWrongText, call_words, flaw_text, hint_of, kind_text};
+ghost use Rattle.negotiate_lines.specs.WrongTexts.{IsHint, IsWrongText, call_words, reason_text, hint_of, kind_text};
 ghost use Rattle.negotiate_lines.specs.WrongTexts.{setting_words};
 ghost use Rattle.negotiate_lines.specs.Wrongs.{command_words};
 
@@ -22,14 +22,14 @@ pub fn wrong_text(alloc: Global, wrong: LineError<'_>) -> Result<String, AllocEr
 {
     let hint = hint_at(alloc, wrong)?;
     let mut text = String::new(alloc);
-    write_flaw(wrong, &mut text)?;
+    write_reason(wrong, &mut text)?;
     text.push_str(&hint)?;
     Ok(text)
 }
 
 /// Writes what is wrong, without a hint.
-fn write_flaw(wrong: LineError<'_>, text: &mut String) -> Result<(), AllocError>
-    ensures { OnOk result (string_bytes text.new ≡ string_bytes text.old ++ flaw_text wrong.entry) }
+fn write_reason(wrong: LineError<'_>, text: &mut String) -> Result<(), AllocError>
+    ensures { OnOk result (string_bytes text.new ≡ string_bytes text.old ++ reason_text wrong.entry) }
 {
     match wrong {
         LineError::NotUtf8 => text.push_str("not UTF-8"),

@@ -24,7 +24,7 @@ module _ (k : ℕ) (x : LineError) (old new : List ℕ) where
     answers_wrong wrong_lines.End goes_on grows =
         record { output = grows.0; is_answer = subst (λ (b : Bool). IsAnswerTo (AnswersLineBy Answers) b m k bytes grows.0 m) (sym grows.1.0) (is.0, grows.1.1); grown = grows.2 }
     answers_wrong wrong_lines.Reply goes_on grows = answers_each [] goes_on grows
-    answers_wrong wrong_lines.ReplyApart goes_on grows = answers_each (codes "\n") goes_on grows
+    answers_wrong wrong_lines.ReplyAndEmptyLine goes_on grows = answers_each (codes "\n") goes_on grows
 
     pub wrong_answered : (w : WrongLines) (r : Result Bool AllocError) → IfOk r (λ goes_on. GrowsBy (IsAnswerToWrong w goes_on k x) old new)
         → IfOk r (λ goes_on. GrowsByLine (LinesBy w Answers) goes_on m k bytes old new m)
@@ -35,7 +35,7 @@ module _ (k : ℕ) (x : LineError) (old new : List ℕ) where
   wrong_may_end : (w : WrongLines) (goes_on : Bool) → GrowsBy (IsAnswerToWrong w goes_on k x) old new → goes_on ≡ false → w ≡ wrong_lines.End
   wrong_may_end wrong_lines.End goes_on grows ends = refl
   wrong_may_end wrong_lines.Reply goes_on grows ends = absurd (true≢false (sym grows.1.0 ∙ ends))
-  wrong_may_end wrong_lines.ReplyApart goes_on grows ends = absurd (true≢false (sym grows.1.0 ∙ ends))
+  wrong_may_end wrong_lines.ReplyAndEmptyLine goes_on grows ends = absurd (true≢false (sym grows.1.0 ∙ ends))
 
   pub wrong_ends : (w : WrongLines) (r : Result Bool AllocError) → IfOk r (λ goes_on. GrowsBy (IsAnswerToWrong w goes_on k x) old new)
       → IfOk r (λ goes_on. goes_on ≡ false → w ≡ wrong_lines.End)

@@ -83,7 +83,7 @@ module _ {M : Type 0} (Answers : Answering M) (m : M) (k : ℕ) (bytes old : Lis
   in_lines : (w : WrongLines) (n : M) (text : List ℕ) → AnswersLineBy Answers m bytes text n → LinesBy w Answers m bytes text n
   in_lines wrong_lines.End n text by = by
   in_lines wrong_lines.Reply n text by = as_command by
-  in_lines wrong_lines.ReplyApart n text by = as_command by
+  in_lines wrong_lines.ReplyAndEmptyLine n text by = as_command by
 
   module _ (w : WrongLines) (l : Line) (is : IsLine bytes l) where
     pub answers_nothing : l ≡ line.Blank → GrowsByLine (LinesBy w Answers) true m k bytes old old m

@@ -65,7 +65,7 @@ module _ {A M : Type 0} (By : Answering A) (Of : Answering M) (Shows : A → M �
   pub lines_by_along : (w : WrongLines) (a b : A) (bytes text : List ℕ) (m : M) → LinesBy w By a bytes text b → Shows a m → (n : M) × LinesBy w Of m bytes text n × Shows b n
   lines_by_along wrong_lines.End a b bytes text m by shows = line_along a b bytes text m by shows
   lines_by_along wrong_lines.Reply a b bytes text m by shows = each_along [] a b bytes text m by shows
-  lines_by_along wrong_lines.ReplyApart a b bytes text m by shows = each_along (codes "\n") a b bytes text m by shows
+  lines_by_along wrong_lines.ReplyAndEmptyLine a b bytes text m by shows = each_along (codes "\n") a b bytes text m by shows
 
   pub transcript_along : (a : A) (m : M) (input : List ℕ) (ended : Result Ending ServeError) (output unread : List ℕ) → IsTranscriptBy By a input ended output unread → Shows a m
       → IsTranscriptBy Of m input ended output unread

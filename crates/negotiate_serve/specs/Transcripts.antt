@@ -63,7 +63,7 @@ pub data AnswersEachBy {M : Type 0} (end : List ℕ) (Answers : Answering M) (m 
 abbrev pub LinesBy : {M : Type 0} → WrongLines → Answering M → AnsweringLines M
 LinesBy wrong_lines.End Answers = AnswersLineBy Answers
 LinesBy wrong_lines.Reply Answers = AnswersEachBy [] Answers
-LinesBy wrong_lines.ReplyApart Answers = AnswersEachBy (codes "\n") Answers
+LinesBy wrong_lines.ReplyAndEmptyLine Answers = AnswersEachBy (codes "\n") Answers
 
 -- what is written of the line with this number where it is neither blank nor a command
 abbrev pub not_a_command : ℕ → List ℕ

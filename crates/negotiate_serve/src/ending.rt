@@ -38,7 +38,7 @@ pub enum WrongLines {
     /// Each has a reply: what is wrong with it.
     Reply,
     /// The same, with an empty line after the reply.
-    ReplyApart,
+    ReplyAndEmptyLine,
 }
 
 /// What keeps the program from going on.

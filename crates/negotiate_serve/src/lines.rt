@@ -87,7 +87,7 @@ fn answer_wrong(
             reply_wrong(wrong, "", text)?;
             Ok(true)
         }
-        WrongLines::ReplyApart => {
+        WrongLines::ReplyAndEmptyLine => {
             reply_wrong(wrong, "\n", text)?;
             Ok(true)
         }

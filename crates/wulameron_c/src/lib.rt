@@ -63,7 +63,7 @@ impl Handle {
             return None;
         }
         let held = std::mem::replace(&mut self.held, SessionPointer::null(alloc));
-        Some(held.into_apart().join())
+        Some(held.into_raw_box().join())
     }
 
     /// Puts a session into the handle.

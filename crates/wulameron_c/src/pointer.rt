@@ -33,19 +33,19 @@ impl SessionPointer {
         }
     }
 
-    /// The session of a box that was taken apart.
-    pub(crate) fn of(apart: RawBox<TableSession, Global>) -> SessionPointer
-        ensures { result.session ≡ Some apart.value }
+    /// Returns the session of a raw box.
+    pub(crate) fn of(raw: RawBox<TableSession, Global>) -> SessionPointer
+        ensures { result.session ≡ Some raw.value }
     {
-        let RawBox { pointer, alloc } = apart;
+        let RawBox { pointer, alloc } = raw;
         SessionPointer {
             pointer: pointer as *mut u8,
             alloc,
         }
     }
 
-    /// What the box of the session was taken apart to.
-    pub(crate) fn into_apart(self) -> RawBox<TableSession, Global>
+    /// Returns the raw box of the session.
+    pub(crate) fn into_raw_box(self) -> RawBox<TableSession, Global>
         requires { IsSome self.session }
         ensures { Some result.value ≡ self.session }
     {

@@ -38,7 +38,7 @@ IsEndOf found _ = Unit {0}
 -- by whether each reply ends with an empty line
 abbrev pub wrong_lines_of : (strict explains : Bool) → WrongLines
 wrong_lines_of true explains = wrong_lines.End
-wrong_lines_of false true = wrong_lines.ReplyApart
+wrong_lines_of false true = wrong_lines.ReplyAndEmptyLine
 wrong_lines_of false false = wrong_lines.Reply
 
 -- 0 at the end of the input, 2 after a line that is no command, 3 after a failure and where the log ends it

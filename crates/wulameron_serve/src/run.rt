@@ -87,7 +87,7 @@ fn wrong_lines_of(strict: bool, explains: bool) -> WrongLines
         return WrongLines::End;
     }
     if explains {
-        return WrongLines::ReplyApart;
+        return WrongLines::ReplyAndEmptyLine;
     }
     WrongLines::Reply
 }

@@ -6,7 +6,7 @@ ghost use Rattle.std.specs.Str.{IsUtf8};
 ghost use Rattle.negotiate_lines.specs.Leaves.{IsLeaf};
 ghost use Rattle.negotiate_lines.specs.declared.leaf.Form.TheVariants as form;
 ghost use Rattle.percent_encoding.specs.Percent.{percent_encode};
-ghost use Rattle.wulameron_serve.specs.declared.words.TheConstants.{PARTING};
+ghost use Rattle.wulameron_serve.specs.declared.words.TheConstants.{WORD_ESCAPES};
 ghost use Rattle.wulameron_serve.specs.Words.{PartsLeaves, word_of};
 
 use percent_encoding::{AsciiSet, CONTROLS, ascii_set, percent_encode};
@@ -14,7 +14,7 @@ use std::alloc::AllocError;
 
 /// The bytes of ASCII that stand escaped in a word: controls, the blank, and what begins an escape. The bytes that part the
 /// leaves of a term stand as they are.
-pub const PARTING: AsciiSet = ascii_set!(CONTROLS.add(b' ').add(b'%'));
+pub const WORD_ESCAPES: AsciiSet = ascii_set!(CONTROLS.add(b' ').add(b'%'));
 
 /// Appends a word as a term. `AllocError` where the text finds no memory; it may have a part of it then.
 pub fn escape_word(word: &[u8], text: &mut String) -> Result<(), AllocError>
@@ -23,7 +23,7 @@ pub fn escape_word(word: &[u8], text: &mut String) -> Result<(), AllocError>
     if word.is_empty() {
         return text.push_str("%");
     }
-    percent_encode(word, PARTING).append_to(text)
+    percent_encode(word, WORD_ESCAPES).append_to(text)
 }
 
 /// Appends a word behind a space.
@@ -49,9 +49,9 @@ pub fn write_words(words: &[&str], text: &mut String) -> Result<(), AllocError>
 /// was, and each part stands for itself.
 pub fn laws_of_words()
     ensures leaf { (word : List ℕ) → IsUtf8 word → IsLeaf form.Escaped (word_of word) word }
-    ensures part { (part : List ℕ) → IsUtf8 part → IsLeaf form.Escaped (percent_encode PARTING part) part }
+    ensures part { (part : List ℕ) → IsUtf8 part → IsLeaf form.Escaped (percent_encode WORD_ESCAPES part) part }
     ensures cut { (front back : List ℕ) (byte : ℕ) → PartsLeaves byte → word_of (front ++ byte ∷ back)
-        ≡ percent_encode PARTING front ++ byte ∷ percent_encode PARTING back }
+        ≡ percent_encode WORD_ESCAPES front ++ byte ∷ percent_encode WORD_ESCAPES back }
     ensures term { (word : List ℕ) → All (λ b. b ≢ 32) (word_of word) }
     ensures some { (word : List ℕ) → 0 < length (word_of word) }
 {}

@@ -26,7 +26,7 @@ use Rattle.iceoryx2_access.specs.Registered.{Registered}
 use Rattle.iceoryx2_rounds.specs.Closes.{IsCloseWord}
 use Rattle.iceoryx2_call_laws.specs.Quiet.{NodeCounts, QuietService, Quiet, IsServiceShown, ShowsService, Shows, CountIs, service_at, times_counted, is_counted}
 use Rattle.iceoryx2_call_laws.specs.QuietCalls.{Closes, closed, fewer_counts, with_counts, closed_by, with_service}
-use Rattle.iceoryx2_call_laws.proofs.quiet.NodeViews.{Apart, AtNode}
+use Rattle.iceoryx2_call_laws.proofs.quiet.NodeViews.{OthersStay, AtNode}
 use Rattle.iceoryx2_call_laws.proofs.quiet.Absent.{at_node, from}
 use Rattle.iceoryx2_call_laws.proofs.quiet.Lift.{services_after, phase_beside, tag_beside, equal_or_not, not_same, other_node, no_node}
 use Rattle.iceoryx2_call_laws.proofs.quiet.Counts.{get_fewer_own, get_fewer_none, get_fewer_other, len_fewer_same, len_fewer_less}
@@ -34,7 +34,7 @@ use Rattle.iceoryx2_call_laws.proofs.quiet.Create.{Made}
 use Rattle.iceoryx2_call_laws.proofs.quiet.There.{was_there}
 use Rattle.iceoryx2_call_laws.proofs.quiet.Leave.{Closed, counts, goes, clears, closing, joins_here}
 
-module _ (f : Registered) (w v : World) (q : Quiet) (a : Apart f.node f.description.hash w v) (s : Shows w q) (x : QuietService) (is_there : service_at q f.description.hash ≡ Some x) (number : x.number ≡ f.number) (k : ℕ) (counted : times_counted x f.node ≡ Some k) (here : ticket_of w f.ticket ≡ Some (ticket_for f)) where
+module _ (f : Registered) (w v : World) (q : Quiet) (a : OthersStay f.node f.description.hash w v) (s : Shows w q) (x : QuietService) (is_there : service_at q f.description.hash ≡ Some x) (number : x.number ≡ f.number) (k : ℕ) (counted : times_counted x f.node ≡ Some k) (here : ticket_of w f.ticket ≡ Some (ticket_for f)) where
   abbrev i : ℕ
   i = f.node
 

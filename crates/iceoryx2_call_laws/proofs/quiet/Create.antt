@@ -25,7 +25,7 @@ use Rattle.iceoryx2_call_laws.specs.Quiet.{Quiet, IsNothingShown, ShowsService, 
 use Rattle.iceoryx2_call_laws.specs.QuietCalls.{Creates, created_by, with_service, spend}
 use Rattle.iceoryx2_call_laws.specs.QuietCalls as call
 use Rattle.iceoryx2_call_laws.specs.Tickets.{tickets_after}
-use Rattle.iceoryx2_call_laws.proofs.quiet.NodeViews.{Apart, AtNode}
+use Rattle.iceoryx2_call_laws.proofs.quiet.NodeViews.{OthersStay, AtNode}
 use Rattle.iceoryx2_call_laws.proofs.quiet.Absent.{from, bare, joined, Founds, forbids, no_time, no_number, forgets, forgets_locked, founds, founding}
 use Rattle.iceoryx2_call_laws.proofs.quiet.Lift.{services_after, same_services, phase_beside, tag_beside, equal_or_not, not_same, other_node, no_node}
 use Rattle.iceoryx2_call_laws.proofs.quiet.Counts.{get_first_own, get_first_other, len_first}
@@ -37,7 +37,7 @@ pub record Made (Calls : Quiet → Type 0) (held : Tickets) (v : World) : Type 0
   pub shows : Shows v state
   pub tickets : v.tickets ≡ held
 
-module _ (i : ℕ) (h : ServiceHash) (w v : World) (q : Quiet) (a : Apart i h w v) (s : Shows w q) (gone : service_at q h ≡ None) where
+module _ (i : ℕ) (h : ServiceHash) (w v : World) (q : Quiet) (a : OthersStay i h w v) (s : Shows w q) (gone : service_at q h ≡ None) where
   pub was_absent : IsNothingShown (row_of w h) (segment_of w h) (λ j. phase_of w (Node j) h) (λ j. tag_of w j h)
   was_absent = subst (λ o. ShowsService w h o) gone (s.services h)
 
@@ -87,7 +87,7 @@ module _ (i : ℕ) (h : ServiceHash) (w v : World) (q : Quiet) (a : Apart i h w 
       ]
       members n d (Peer j) = contains_alone (Node i) (Peer j) ∙ not_same (Peer j) (Node i) (no_node j i)
 
-module _ {E C : Type 0} (m : PatternRules E C) (caller : Caller) (w v : World) (q : Quiet) (a : Apart caller.node caller.hash w v) (s : Shows w q) (gone : service_at q caller.hash ≡ None) where
+module _ {E C : Type 0} (m : PatternRules E C) (caller : Caller) (w v : World) (q : Quiet) (a : OthersStay caller.node caller.hash w v) (s : Shows w q) (gone : service_at q caller.hash ≡ None) where
   abbrev i : ℕ
   i = caller.node
 

@@ -15,7 +15,7 @@ use Rattle.iceoryx2_world.specs.World.{World, phase_of, tag_of}
 use Rattle.iceoryx2_world.proofs.agreement.Moved.{same, same_is}
 use Rattle.iceoryx2_world.proofs.agreement.Whole.{own_hash, same_hash}
 use Rattle.iceoryx2_call_laws.specs.Quiet.{QuietService, Quiet, service_at, ShowsAt, ShowsService, Shows}
-use Rattle.iceoryx2_call_laws.proofs.quiet.NodeViews.{Apart, at_tag}
+use Rattle.iceoryx2_call_laws.proofs.quiet.NodeViews.{OthersStay, at_tag}
 
 and_false : (b : Bool) → (b && false) ≡ false
 and_false true = refl
@@ -50,20 +50,20 @@ pub different_hash : (g h : ServiceHash) → is_eq (hash_cmp g h) ≡ false → 
 different_hash g h apart is = true≢false (sym (own_hash h) ∙ ap (λ k. is_eq (hash_cmp k h)) (sym is) ∙ apart)
 
 -- at another hash
-pub tag_elsewhere : {i : ℕ} {h : ServiceHash} {w v : World} → Apart i h w v → (j : ℕ) (g : ServiceHash) → is_eq (hash_cmp g h) ≡ false → tag_of v j g ≡ tag_of w j g
+pub tag_elsewhere : {i : ℕ} {h : ServiceHash} {w v : World} → OthersStay i h w v → (j : ℕ) (g : ServiceHash) → is_eq (hash_cmp g h) ≡ false → tag_of v j g ≡ tag_of w j g
 tag_elsewhere {i = i} {h = h} a j g apart = a.tags j g (false_unless _ (λ e. different_hash g h apart (tied_tag j i g h e).1))
 
-pub phase_elsewhere : {i : ℕ} {h : ServiceHash} {w v : World} → Apart i h w v → (j : ℕ) (g : ServiceHash) → is_eq (hash_cmp g h) ≡ false → phase_of v (Node j) g ≡ phase_of w (Node j) g
+pub phase_elsewhere : {i : ℕ} {h : ServiceHash} {w v : World} → OthersStay i h w v → (j : ℕ) (g : ServiceHash) → is_eq (hash_cmp g h) ≡ false → phase_of v (Node j) g ≡ phase_of w (Node j) g
 phase_elsewhere {i = i} {h = h} a j g apart = a.phases (Node j) g (ap (λ b. same (Node j) (Node i) && b) apart ∙ and_false _)
 
 -- another node at the same hash
-pub phase_beside : {i : ℕ} {h : ServiceHash} {w v : World} → Apart i h w v → (j : ℕ) → j ≢ i → phase_of v (Node j) h ≡ phase_of w (Node j) h
+pub phase_beside : {i : ℕ} {h : ServiceHash} {w v : World} → OthersStay i h w v → (j : ℕ) → j ≢ i → phase_of v (Node j) h ≡ phase_of w (Node j) h
 phase_beside {i = i} {h = h} a j other = a.phases (Node j) h (ap (λ b. b && is_eq (hash_cmp h h)) (not_same (Node j) (Node i) (other_node j i other)))
 
-pub tag_beside : {i : ℕ} {h : ServiceHash} {w v : World} → Apart i h w v → (j : ℕ) → j ≢ i → tag_of v j h ≡ tag_of w j h
+pub tag_beside : {i : ℕ} {h : ServiceHash} {w v : World} → OthersStay i h w v → (j : ℕ) → j ≢ i → tag_of v j h ≡ tag_of w j h
 tag_beside {i = i} {h = h} a j other = a.tags j h (false_unless _ (λ e. other (tied_tag j i h h e).0))
 
-elsewhere : {i : ℕ} {h : ServiceHash} {w v : World} → Apart i h w v → (o : Option QuietService) (g : ServiceHash) → is_eq (hash_cmp g h) ≡ false → ShowsService w g o → ShowsService v g o
+elsewhere : {i : ℕ} {h : ServiceHash} {w v : World} → OthersStay i h w v → (o : Option QuietService) (g : ServiceHash) → is_eq (hash_cmp g h) ≡ false → ShowsService w g o → ShowsService v g o
 elsewhere {w = w} {v = v} a o g apart s =
     let rows = sym (a.rows g apart) in
     let segments = sym (a.segments g apart) in
@@ -73,7 +73,7 @@ elsewhere {w = w} {v = v} a o g apart s =
     subst (λ (X : Type 0). X) along s
 
 -- Every hash by itself: at its own the service is this one now, and elsewhere all is as before.
-pub services_after : {i : ℕ} {h : ServiceHash} {w v : World} (q p : Quiet) (o : Option QuietService) → Apart i h w v → Shows w q
+pub services_after : {i : ℕ} {h : ServiceHash} {w v : World} (q p : Quiet) (o : Option QuietService) → OthersStay i h w v → Shows w q
     → ((g : ServiceHash) → service_at p g ≡ cond (is_eq (hash_cmp g h)) o (service_at q g))
     → ShowsService v h o
     → (g : ServiceHash) → ShowsService v g (service_at p g)

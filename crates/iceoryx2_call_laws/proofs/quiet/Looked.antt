@@ -23,7 +23,7 @@ use Rattle.iceoryx2_call_laws.proofs.quiet.Absent.{from, look_bare}
 use Rattle.iceoryx2_call_laws.proofs.quiet.Calls.{is_call}
 use Rattle.iceoryx2_call_laws.proofs.quiet.Create.{was_absent, begin_absent, stays_absent}
 use Rattle.iceoryx2_call_laws.proofs.quiet.Here.{look_here}
-use Rattle.iceoryx2_call_laws.proofs.quiet.NodeViews.{Apart, move_all}
+use Rattle.iceoryx2_call_laws.proofs.quiet.NodeViews.{OthersStay, move_all}
 use Rattle.iceoryx2_call_laws.proofs.quiet.There.{LooksThere, finds, look_there, still_counts, was_there, begin_there, stays_there}
 
 -- A word that left the machine as it was.
@@ -70,7 +70,7 @@ module _ {E C : Type 0} (m : PatternRules E C) (i : ℕ) (h : ServiceHash) {w v 
 
   -- where it is there, it may find it
   module _ (x : QuietService) (is_there : service_at q h ≡ Some x) where
-    found_by : {n : ℕ} {d : Description} {t : NodeView} {word : List Letter} (a : Apart i h w v) → Run IsOwnPart w word v → node_view v i h ≡ t
+    found_by : {n : ℕ} {d : Description} {t : NodeView} {word : List Letter} (a : OthersStay i h w v) → Run IsOwnPart w word v → node_view v i h ≡ t
         → LooksThere i h x.number (form.description x.description) (segment_of w h) w.counter (tag_of w i h) w.tickets m x.description (was_there i h w v q a s x is_there).limits (was_there i h w v q a s x is_there).hash refl (phase_of w (Node i) h) (outcome.Found n d) t
         → FindsIt m w q v x
     found_by a run is (finds p good) = record {

@@ -37,17 +37,17 @@ contains-set_tag t k q (Some true) = set.contains-insert tag_total t k q ∙ eli
 contains-set_tag t k q (Some false) = set.contains-remove tag_total t k q ∙ elim (eq_by_cmp tag_cmp q k) as (λ b. (not b && set.contains t q) ≡ cond b false (set.contains t q)) [ true ↦ refl | false ↦ refl ]
 
 -- Only what one node sees of one service changed.
-pub record Apart (i : ℕ) (h : ServiceHash) (w v : World) : Type 0 where
+pub record OthersStay (i : ℕ) (h : ServiceHash) (w v : World) : Type 0 where
   pub rows : (g : ServiceHash) → is_eq (hash_cmp g h) ≡ false → row_of v g ≡ row_of w g
   pub segments : (g : ServiceHash) → is_eq (hash_cmp g h) ≡ false → segment_of v g ≡ segment_of w g
   pub phases : (q : Participant) (g : ServiceHash) → (same q (Node i) && is_eq (hash_cmp g h)) ≡ false → phase_of v q g ≡ phase_of w q g
   pub tags : (j : ℕ) (g : ServiceHash) → at_tag j g i h ≡ false → tag_of v j g ≡ tag_of w j g
 
-pub apart_same : (i : ℕ) (h : ServiceHash) (w : World) → Apart i h w w
-apart_same i h w = record { rows = λ g e. refl; segments = λ g e. refl; phases = λ q g e. refl; tags = λ j g e. refl }
+pub others_stay_same : (i : ℕ) (h : ServiceHash) (w : World) → OthersStay i h w w
+others_stay_same i h w = record { rows = λ g e. refl; segments = λ g e. refl; phases = λ q g e. refl; tags = λ j g e. refl }
 
-pub apart_both : {i : ℕ} {h : ServiceHash} {u v w : World} → Apart i h u v → Apart i h v w → Apart i h u w
-apart_both a b = record { rows = λ g e. b.rows g e ∙ a.rows g e; segments = λ g e. b.segments g e ∙ a.segments g e; phases = λ q g e. b.phases q g e ∙ a.phases q g e; tags = λ j g e. b.tags j g e ∙ a.tags j g e }
+pub others_stay_both : {i : ℕ} {h : ServiceHash} {u v w : World} → OthersStay i h u v → OthersStay i h v w → OthersStay i h u w
+others_stay_both a b = record { rows = λ g e. b.rows g e ∙ a.rows g e; segments = λ g e. b.segments g e ∙ a.segments g e; phases = λ q g e. b.phases q g e ∙ a.phases q g e; tags = λ j g e. b.tags j g e ∙ a.tags j g e }
 
 module _ (w : World) (i : ℕ) (h : ServiceHash) where
   tag_write : (o : Option Bool) → set.contains (set_tag w.tags (i, h) o) (i, h) ≡ unwrap_or o (tag_of w i h)
@@ -68,10 +68,10 @@ module _ (w : World) (i : ℕ) (h : ServiceHash) where
   tags_write : (o : Option Bool) (j : ℕ) (g : ServiceHash) → at_tag j g i h ≡ false → set.contains (set_tag w.tags (i, h) o) (j, g) ≡ tag_of w j g
   tags_write o j g e = contains-set_tag w.tags (i, h) (j, g) o ∙ ap (λ b. cond b (unwrap_or o (tag_of w j g)) (tag_of w j g)) e
 
-  pub apart_write : (c : Change) → Apart i h w (write w i h c)
-  apart_write c = views c.view c.tag c.tickets
+  pub others_stay_write : (c : Change) → OthersStay i h w (write w i h c)
+  others_stay_write c = views c.view c.tag c.tickets
     where
-      views : (x : Option ServiceView) (g : Option Bool) (k : Option Tickets) → Apart i h w (write w i h (record { view = x; tag = g; tickets = k }))
+      views : (x : Option ServiceView) (g : Option Bool) (k : Option Tickets) → OthersStay i h w (write w i h (record { view = x; tag = g; tickets = k }))
       views None o k = record { rows = λ g e. refl; segments = λ g e. refl; phases = λ q g e. refl; tags = tags_write o }
       views (Some s) o k = record {
         rows = λ g e. row_put w (Node i) h s g ∙ ap (λ b. cond b s.row (row_of w g)) e;
@@ -83,10 +83,10 @@ module _ (w : World) (i : ℕ) (h : ServiceHash) where
 -- What an access of this node gives there and elsewhere.
 pub record Moves (i : ℕ) (h : ServiceHash) (w : World) (l : Letter) (v : World) : Type 0 where
   pub at : AtNode i h (node_view w i h) l (node_view v i h)
-  pub apart : Apart i h w v
+  pub apart : OthersStay i h w v
 
 written : (w v : World) (i : ℕ) (h : ServiceHash) (l : Letter) (c : Change) → IsNodeAnswer i h (node_view w i h) l c → v ≡ write w i h c → Moves i h w l v
-written w v i h l c own is = subst (λ (u : World). Moves i h w l u) (sym is) (record { at = record { change = c; own = own; is = node_view_write w i h c }; apart = apart_write w i h c })
+written w v i h l c own is = subst (λ (u : World). Moves i h w l u) (sym is) (record { at = record { change = c; own = own; is = node_view_write w i h c }; apart = others_stay_write w i h c })
 
 of_node : (w v : World) (i : ℕ) (h : ServiceHash) (l : Letter) → acting_node l ≡ i → service_of l ≡ h → IsOwnPart w l v → Moves i h w l v
 of_node w v i h l e f x = subst (λ j. Moves j h w l v) e (subst (λ g. Moves (acting_node l) g w l v) f (written w v (acting_node l) (service_of l) l x.change x.own x.is))
@@ -94,7 +94,7 @@ of_node w v i h l e f x = subst (λ j. Moves j h w l v) e (subst (λ g. Moves (a
 pub move : (i : ℕ) (h : ServiceHash) (w : World) (l : Letter) (v : World) → Here i h l → IsOwnPart w l v → Moves i h w l v
 move i h w (letter.Exists g a) v e x =
     let same_world : v ≡ w = x.is ∙ ap (write w 0 g) x.own.1 in
-    subst (λ (u : World). Moves i h w (letter.Exists g a) u) (sym same_world) (record { at = record { change = nothing; own = (x.own.0 ∙ ap (λ k. existence (row_of w k)) e, refl); is = refl }; apart = apart_same i h w })
+    subst (λ (u : World). Moves i h w (letter.Exists g a) u) (sym same_world) (record { at = record { change = nothing; own = (x.own.0 ∙ ap (λ k. existence (row_of w k)) e, refl); is = refl }; apart = others_stay_same i h w })
 move i h w l v e x = of_node w v i h l e.0 e.1 x
 
 -- every letter is of this node and this service
@@ -108,12 +108,12 @@ all_both (more e a) b = more e (all_both a b)
 
 pub record MovesAll (i : ℕ) (h : ServiceHash) (w : World) (word : List Letter) (v : World) : Type 0 where
   pub at : Run (AtNode i h) (node_view w i h) word (node_view v i h)
-  pub apart : Apart i h w v
+  pub apart : OthersStay i h w v
 
 -- A run of accesses of one node to one service, as that node sees it.
 pub move_all : (i : ℕ) (h : ServiceHash) {w v : World} {word : List Letter} → AllHere i h word → Run IsOwnPart w word v → MovesAll i h w word v
-move_all i h none (done {s = w}) = record { at = done; apart = apart_same i h w }
+move_all i h none (done {s = w}) = record { at = done; apart = others_stay_same i h w }
 move_all i h (more e es) (next {old = w} {mid = m} {letter = l} x r) =
     let one = move i h w l m e x in
     let rest = move_all i h es r in
-    record { at = next one.at rest.at; apart = apart_both one.apart rest.apart }
+    record { at = next one.at rest.at; apart = others_stay_both one.apart rest.apart }

@@ -29,7 +29,7 @@ use Rattle.iceoryx2_call_laws.specs.Quiet.{NodeCounts, QuietService, Quiet, IsSe
 use Rattle.iceoryx2_call_laws.specs.QuietCalls.{Opens, HasPlace, more_counts, opened_by, with_service, spend}
 use Rattle.iceoryx2_call_laws.specs.QuietCalls as call
 use Rattle.iceoryx2_call_laws.specs.Tickets.{tickets_after}
-use Rattle.iceoryx2_call_laws.proofs.quiet.NodeViews.{Apart, AtNode}
+use Rattle.iceoryx2_call_laws.proofs.quiet.NodeViews.{OthersStay, AtNode}
 use Rattle.iceoryx2_call_laws.proofs.quiet.Absent.{at_node, from}
 use Rattle.iceoryx2_call_laws.proofs.quiet.Lift.{services_after, phase_beside, tag_beside, equal_or_not, not_same, other_node, no_node}
 use Rattle.iceoryx2_call_laws.proofs.quiet.Counts.{get_more_own, get_more_other, len_more_new, len_more_old}
@@ -37,7 +37,7 @@ use Rattle.iceoryx2_call_laws.proofs.quiet.Create.{Made, was_absent, begin_absen
 use Rattle.iceoryx2_call_laws.proofs.quiet.There.{was_there, stays_there}
 use Rattle.iceoryx2_call_laws.proofs.quiet.Open.{opening_absent, stood, joined_view, Place, OpensHere, starves, bad, unfit, no_place, no_number, opens, opening_there}
 
-module _ {E C : Type 0} (m : PatternRules E C) (i : ℕ) (h : ServiceHash) (w v : World) (q : Quiet) (a : Apart i h w v) (s : Shows w q) (gone : service_at q h ≡ None) where
+module _ {E C : Type 0} (m : PatternRules E C) (i : ℕ) (h : ServiceHash) (w v : World) (q : Quiet) (a : OthersStay i h w v) (s : Shows w q) (gone : service_at q h ≡ None) where
   pub open_absent : (r : Result Registered E) (word : List Letter) → IsOpenWord m i h word r → Run (AtNode i h) (node_view w i h) word (node_view v i h) → Made (Opens m q i h r) (tickets_after w.tickets r) v
   open_absent r word is_word run =
       let e = opening_absent m i h (phase_of w (Node i) h) q.counter w.tickets is_word (from (begin_absent i h w v q a s gone) run) in
@@ -48,7 +48,7 @@ module _ {E C : Type 0} (m : PatternRules E C) (i : ℕ) (h : ServiceHash) (w v 
         tickets = ap (λ (z : NodeView). z.tickets) e.1;
       })
 
-module _ (i : ℕ) (h : ServiceHash) (w v : World) (q : Quiet) (a : Apart i h w v) (s : Shows w q) (x : QuietService) (is_there : service_at q h ≡ Some x) where
+module _ (i : ℕ) (h : ServiceHash) (w v : World) (q : Quiet) (a : OthersStay i h w v) (s : Shows w q) (x : QuietService) (is_there : service_at q h ≡ Some x) where
   abbrev pub was : IsServiceShown h x (row_of w h) (segment_of w h) (λ j. phase_of w (Node j) h) (λ j. tag_of w j h)
   was = was_there i h w v q a s x is_there
 
@@ -113,7 +113,7 @@ module _ (i : ℕ) (h : ServiceHash) (w v : World) (q : Quiet) (a : Apart i h w 
       (λ z other. refl)
       is
 
-module _ {E C : Type 0} (m : PatternRules E C) (i : ℕ) (h : ServiceHash) (w v : World) (q : Quiet) (a : Apart i h w v) (s : Shows w q) (old : Agrees w) (x : QuietService) (is_there : service_at q h ≡ Some x) where
+module _ {E C : Type 0} (m : PatternRules E C) (i : ℕ) (h : ServiceHash) (w v : World) (q : Quiet) (a : OthersStay i h w v) (s : Shows w q) (old : Agrees w) (x : QuietService) (is_there : service_at q h ≡ Some x) where
   abbrev before : IsServiceShown h x (row_of w h) (segment_of w h) (λ j. phase_of w (Node j) h) (λ j. tag_of w j h)
   before = was_there i h w v q a s x is_there
 

@@ -34,7 +34,7 @@ use Rattle.iceoryx2_call_laws.specs.Quiet.{QuietService, Quiet, IsServiceShown, 
 use Rattle.iceoryx2_call_laws.specs.QuietCalls.{Creates}
 use Rattle.iceoryx2_call_laws.specs.QuietCalls as call
 use Rattle.iceoryx2_call_laws.specs.Tickets.{tickets_after}
-use Rattle.iceoryx2_call_laws.proofs.quiet.NodeViews.{Apart, AtNode}
+use Rattle.iceoryx2_call_laws.proofs.quiet.NodeViews.{OthersStay, AtNode}
 use Rattle.iceoryx2_call_laws.proofs.quiet.Absent.{at_node, ended, from}
 use Rattle.iceoryx2_call_laws.proofs.quiet.Lift.{services_after, same_services, phase_beside, tag_beside, equal_or_not}
 use Rattle.iceoryx2_call_laws.proofs.quiet.Create.{Made}
@@ -116,7 +116,7 @@ module _ (i : ℕ) (h : ServiceHash) (n : ℕ) (b : List ℕ) (sg : Option Segme
         leads (fetch_there x _ _ (last (from (f.first.is ∙ ap (node_view_after _) f.first.own.1) f.rest))) l
 
 -- where only the phase of one node changed, and it counts as before
-module _ (i : ℕ) (h : ServiceHash) (w v : World) (q : Quiet) (a : Apart i h w v) (s : Shows w q) (x : QuietService) (is_there : service_at q h ≡ Some x) where
+module _ (i : ℕ) (h : ServiceHash) (w v : World) (q : Quiet) (a : OthersStay i h w v) (s : Shows w q) (x : QuietService) (is_there : service_at q h ≡ Some x) where
   pub was_there : IsServiceShown h x (row_of w h) (segment_of w h) (λ j. phase_of w (Node j) h) (λ j. tag_of w j h)
   was_there = subst (λ o. ShowsService w h o) is_there (s.services h)
 
@@ -150,7 +150,7 @@ still_counts None (keeps e) count = count
 still_counts (Some k) (reads e) count = absurd (cc)
 still_counts (Some k) (keeps e) count = count
 
-module _ {E C : Type 0} (m : PatternRules E C) (caller : Caller) (w v : World) (q : Quiet) (a : Apart caller.node caller.hash w v) (s : Shows w q) (x : QuietService) (is_there : service_at q caller.hash ≡ Some x) where
+module _ {E C : Type 0} (m : PatternRules E C) (caller : Caller) (w v : World) (q : Quiet) (a : OthersStay caller.node caller.hash w v) (s : Shows w q) (x : QuietService) (is_there : service_at q caller.hash ≡ Some x) where
   abbrev i : ℕ
   i = caller.node
 

@@ -1,4 +1,4 @@
--- `into_apart` gives what the session owns.
+-- `into_raw_box` gives what the session owns.
 use Rattle.std.proofs.Common.{◌≡◌, List, [], ◌∷◌, ◌++◌, refl, sym, subst}
 use mir.Val.{Val, vptr}
 use base.Logic.{SProp, ent, emp, id⊢}
@@ -25,13 +25,13 @@ use Rattle.wulameron_c.proofs.Stored as stored
 use Rattle.wulameron_c.proofs.Stored.{pair, pair_fits}
 use Rattle.wulameron_c.proofs.Held as held
 use Rattle.wulameron_c.proofs.Held.{V, A, laws, Row, found}
-use Rattle.wulameron_c.specs.contracts.pointer.SessionPointer.into_apart.{ended, clauses}
-use Rattle.wulameron_c.specs.contracts.pointer.SessionPointer.into_apart.Key.{name as #self}
-use Rattle.wulameron_c.proofs.pointer.SessionPointer.into_apart.Statement.{statement}
-use Rattle.wulameron_c.proofs.pointer.SessionPointer.into_apart.Code as code
+use Rattle.wulameron_c.specs.contracts.pointer.SessionPointer.into_raw_box.{ended, clauses}
+use Rattle.wulameron_c.specs.contracts.pointer.SessionPointer.into_raw_box.Key.{name as #self}
+use Rattle.wulameron_c.proofs.pointer.SessionPointer.into_raw_box.Statement.{statement}
+use Rattle.wulameron_c.proofs.pointer.SessionPointer.into_raw_box.Code as code
 
-pub into_apart_spec : {M : Type 1} → statement M
-into_apart_spec 𝓤 𝓛 𝓜 𝓡 wired =
+pub into_raw_box_spec : {M : Type 1} → statement M
+into_raw_box_spec 𝓤 𝓛 𝓜 𝓡 wired =
     let H = 𝓛.H in let 𝓣 = tables 𝓤 H 𝓜 𝓡 𝓡.env in let c = clauses 𝓛 𝓜.mem 𝓡.returns in let fn = code.function in
     let taken = plain (λ _. Row) in let stays : Stays ended.signature.params ended.kept = (stay_dropped taken yes, tt) in
     proved_at 𝓛 ended stays c 𝓜 𝓡 (Goes-dropped 𝓛 0 taken yes (λ κs x f. refl), tt) #self fn (code.unfolded 𝓤 H 𝓜 𝓡 wired) (λ z are.

@@ -1,5 +1,5 @@
 use Rattle.std.proofs.Common.{append_assoc}
-use Rattle.negotiate_lines.proofs.wrong_text.write_flaw.Goals as goal
+use Rattle.negotiate_lines.proofs.wrong_text.write_reason.Goals as goal
 
 pub returns-in_ok-write_of-in-TooManyPairs : goal.returns-in_ok-write_of-in-TooManyPairs
 returns-in_ok-write_of-in-TooManyPairs c =
