@@ -42,10 +42,10 @@ more_keeps bytes more entries front b =
 
 -- ---- entries in front
 
-abbrev Read : Type 0
+abbrev pub Read : Type 0
 Read = Entry × List ℕ
 
-abbrev read : Entry → List ℕ → Read
+abbrev pub read : Entry → List ℕ → Read
 read e rest = (e, rest)
 
 pub same_front : (bytes : List ℕ) (d e : Entry) (m n : ℕ) (x : Begins bytes d m) (y : Begins bytes e n)

@@ -3,43 +3,21 @@ use Rattle.std.proofs.Common.{◌≡◌, inl, inr, ℕ, ◌+◌, ◌≤◌, Bool
 use Rattle.std.proofs.Common.{take, drop, refl, sym, ap, subst, ◌∙◌, append_assoc, length-append, take-append-drop, arith}
 use Rattle.std.specs.Str.{bytes_eq}
 use Rattle.std.proofs.lemmas.List.{append-nil, length-drop, length-take-le, take_all, take_at, drop_at}
-use Rattle.iceoryx2_data.proofs.PartForms.{some_is}
 use Rattle.iceoryx2_log.specs.declared.entry.Entry.{Entry}
 use Rattle.iceoryx2_log.specs.Form.{IsForm, Begins}
-use Rattle.iceoryx2_log.proofs.Found.{read_again, one_form, one_entry, no_front}
+use Rattle.iceoryx2_log.proofs.Found.{one_form, one_entry, no_front}
 use Rattle.iceoryx2_file_log.specs.Compaction.{AreForms}
 use Rattle.iceoryx2_file_log.specs.Crashes.{BeginsWithNone, BeginsWithNoOther, StandsFor, StandsWithOrWithout}
 use Rattle.iceoryx2_file_log.specs.Crashes.{MayLeaveOfCut, OneListEach, AppendsOrNot, FrontsFit, AppendsWhenWritten}
 use Rattle.iceoryx2_file_log.specs.Crashes.{KeepsAppended, CutsNoEntry, CutsOrNot, NoneSkipped, NoneInvented}
+use Rattle.iceoryx2_file_log.proofs.Keeping.{Read, begin_of, same_front}
 use Rattle.iceoryx2_file_log.proofs.Torn.{equal_bytes, differ}
 use Rattle.iceoryx2_file_log.proofs.Snapshots.{forms_push}
 
-abbrev Read : Type 0
-Read = Entry × List ℕ
-
-abbrev read : Entry → List ℕ → Read
-read e rest = (e, rest)
-
 -- ---- one list of entries
-
-same_front : (bytes : List ℕ) (d e : Entry) (m n : ℕ) (x : Begins bytes d m) (y : Begins bytes e n)
-    → read d x.rest ≡ read e y.rest
-same_front bytes d e m n x y =
-    some_is (read d x.rest) (read e y.rest) (sym (read_again bytes d m x) ∙ read_again bytes e n y)
-
-begin_of : (e : Entry) (entries : List Entry) (forms rest bytes : List ℕ) (are : AreForms (e ∷ entries) forms)
-    → bytes ≡ forms ++ rest → Begins bytes e (length are.0)
-begin_of e entries forms rest bytes are parts = record {
-  form = are.0;
-  rest = are.1 ++ rest;
-  is_form = are.2;
-  parts = parts ∙ ap (λ (b : List ℕ). b ++ rest) are.3 ∙ append_assoc are.0 are.1 rest;
-  counted = refl;
-}
 
 one_list : (es fs : List Entry) (bs cs r s : List ℕ) → AreForms es bs → AreForms fs cs → bs ++ r ≡ cs ++ s
     → BeginsWithNone r → BeginsWithNone s → (es ≡ fs) × (r ≡ s)
-unfolding begin_of
 one_list [] [] bs cs r s a b e quiet still =
     (refl, sym (ap (λ (x : List ℕ). x ++ r) a) ∙ e ∙ ap (λ (x : List ℕ). x ++ s) b)
 one_list [] (f ∷ fs) bs cs r s a b e quiet still =

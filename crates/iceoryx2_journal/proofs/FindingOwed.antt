@@ -3,36 +3,21 @@ use Rattle.std.proofs.Common.{◌≡◌, ℕ, zero, suc, ◌≤◌, Bool, true, 
 use Rattle.std.specs.Prelude.{◌&&◌, ◌==◌, not, is_some}
 use Rattle.std.specs.List.{find as first}
 use Rattle.std.specs.FinMap as map
-use Rattle.std.specs.Option.{option_map}
-use Rattle.std.specs.Ordering.{eq_by_cmp, is_eq}
-use Rattle.std.specs.Cmp.{Equal-is, tied_itself}
-use Rattle.std.specs.declared.cmp.Ordering.{Ordering}
 use Rattle.std.proofs.lemmas.Bool.{eqb-true, eq-eqb}
 use Rattle.std.proofs.lemmas.Cmp.{nat_cmp_total}
 use Rattle.std.proofs.lemmas.Map.Lookups.{exact_unsigned}
 use Rattle.iceoryx2_description.specs.declared.description.ServiceHash.{ServiceHash}
-use Rattle.iceoryx2_world.specs.declared.world.Participant.{Participant}
-use Rattle.iceoryx2_world.specs.declared.world.Participant.TheVariants.{Node}
-use Rattle.iceoryx2_world.specs.declared.world.Phase.{Phase}
 use Rattle.iceoryx2_world.specs.declared.world.Ticket.{Ticket}
-use Rattle.iceoryx2_world.specs.Orders.{participant_cmp, participant_total, participant_exact, place_total, place_exact, tag_total, tag_exact}
+use Rattle.iceoryx2_world.specs.Orders.{tag_total, tag_exact}
 use Rattle.iceoryx2_world.specs.Sets as set
-use Rattle.iceoryx2_world.specs.World.{World, or_idle, ticket_count, ticket_of, tag_of}
-use Rattle.iceoryx2_table.specs.Holdings.{is_unfinished, held_service, HasFinished}
+use Rattle.iceoryx2_world.specs.World.{World, ticket_count, ticket_of, tag_of}
+use Rattle.iceoryx2_table.specs.Holdings.{held_service}
 use Rattle.iceoryx2_table.specs.declared.holdings.Holding.{Holding}
 use Rattle.iceoryx2_table.specs.declared.holdings.Holding.TheVariants as holding
-use Rattle.iceoryx2_table.proofs.Held.{both_of, found_in, none_in, not_some, some_is}
+use Rattle.iceoryx2_table.proofs.Held.{both_of, finished, found_in, mapped, none_in, service_found, unmapped, with_node}
 use Rattle.iceoryx2_journal.specs.Owed.{is_among, owed_tag, owed_ticket, IsOwed, IsOwedOrNone}
 
 -- ---- what is found
-
-mapped : {A B : Type 0} (f : A → B) (o : Option A) (h : B) → option_map f o ≡ Some h → (e : A) × (o ≡ Some e) × (f e ≡ h)
-mapped f None h is = not_some h is
-mapped f (Some e) h is = (e, refl, some_is (f e) h is)
-
-unmapped : {A B : Type 0} (f : A → B) (o : Option A) → option_map f o ≡ None → o ≡ None
-unmapped f None is = refl
-unmapped f (Some e) is = not_some (f e) (sym is)
 
 not_so : (b : Bool) → not b ≡ true → b ≡ false
 not_so false e = refl
@@ -51,9 +36,6 @@ some_left : (n : ℕ) → (n == 0) ≡ false → 1 ≤ n
 some_left zero e = absurd (cc)
 some_left (suc n) e = omega (arith)
 
-abbrev with_node : ℕ → Ticket → Ticket
-with_node n x = record { node = n; hash = x.hash; number = x.number }
-
 module _ (w : World) (i : ℕ) (spared : List ℕ) where
   abbrev is_owed_ticket : ℕ × Ticket → Bool
   is_owed_ticket e = e.1.node == i && not (is_among spared e.0)
@@ -61,14 +43,8 @@ module _ (w : World) (i : ℕ) (spared : List ℕ) where
   abbrev is_owed_tag : (ℕ × ServiceHash) × Unit {0} → Bool
   is_owed_tag e = e.0.0 == i && ticket_count w.tickets i e.0.1 == 0
 
-  abbrev is_owed_service : (Participant × ServiceHash) × Phase → Bool
-  is_owed_service e = eq_by_cmp participant_cmp e.0.0 (Node i) && is_unfinished e.1
-
   ticket_by : (e : ℕ × Ticket) → map.get w.tickets e.0 ≡ Some e.1 → e.1.node ≡ i → is_among spared e.0 ≡ false → IsOwed w i spared (holding.Ticket e.0 e.1.hash e.1.number)
   ticket_by e there is other = (there ∙ ap (λ n. Some (with_node n e.1)) is, other)
-
-  service_by : (e : (Participant × ServiceHash) × Phase) → map.get w.phases e.0 ≡ Some e.1 → e.0.0 ≡ Node i → is_unfinished e.1 ≡ true → IsOwed w i spared (holding.Service e.0.1 e.1)
-  service_by e there is unfinished = (ap or_idle (subst (λ p. map.get w.phases (p, e.0.1) ≡ Some e.1) is there), unfinished)
 
   tag_by : (e : (ℕ × ServiceHash) × Unit {0}) → map.get w.tags e.0 ≡ Some e.1 → e.0.0 ≡ i → ticket_count w.tickets i e.0.1 ≡ 0 → IsOwed w i spared (holding.Tag e.0.1)
   tag_by e there is none = (subst (λ n. set.contains w.tags (n, e.0.1) ≡ true) is (ap is_some there), none)
@@ -87,19 +63,8 @@ module _ (w : World) (i : ℕ) (spared : List ℕ) where
 
   service_is : (h : Holding) → held_service i (map.entries w.phases) ≡ Some h → IsOwed w i spared h
   service_is h is =
-      let m = mapped (λ e. holding.Service e.0.1 e.1) (first is_owed_service (map.entries w.phases)) h is in
-      let f = found_in place_total is_owed_service w.phases m.0 m.1 in
-      let b = both_of _ _ f.1 in
-      subst (λ x. IsOwed w i spared x) m.2 (service_by m.0 f.0 (participant_exact m.0.0.0 (Node i) ((Equal-is (participant_cmp m.0.0.0 (Node i))).0 b.0)) b.1)
-
-  finished_at : (h : ServiceHash) (o : Option Phase) → ((x : Phase) → o ≡ Some x → (eq_by_cmp participant_cmp (Node i) (Node i) && is_unfinished x) ≡ false) → is_unfinished (or_idle o) ≡ false
-  finished_at h None f = refl
-  finished_at h (Some x) f = ap (λ (r : Ordering). is_eq r && is_unfinished x) (sym (tied_itself participant_total (Node i))) ∙ f x refl
-
-  finished : held_service i (map.entries w.phases) ≡ None → HasFinished w i
-  finished is h =
-      let n = unmapped (λ e. holding.Service e.0.1 e.1) (first is_owed_service (map.entries w.phases)) is in
-      finished_at h (map.get w.phases (Node i, h)) (λ x there. none_in place_total is_owed_service w.phases place_exact n (Node i, h) x there)
+      let found = service_found w i h is in
+      subst (λ x. IsOwed w i spared x) found.1 (found.2, found.3)
 
   tag_is : (h : Holding) → owed_tag i w.tickets (map.entries w.tags) ≡ Some h → IsOwed w i spared h
   tag_is h is =
@@ -119,7 +84,7 @@ module _ (w : World) (i : ℕ) (spared : List ℕ) where
 
   tag_or_none : (o : Option Holding) → owed_ticket i spared (map.entries w.tickets) ≡ None → held_service i (map.entries w.phases) ≡ None → owed_tag i w.tickets (map.entries w.tags) ≡ o → IsOwedOrNone w i spared o
   tag_or_none (Some h) none done is = tag_is h is
-  tag_or_none None none done is = record { tickets = no_ticket none; finished = finished done; tags = tags_have is }
+  tag_or_none None none done is = record { tickets = no_ticket none; finished = finished w i done; tags = tags_have is }
 
 -- The three searches, by the first that finds something.
 module _ (w : World) (i : ℕ) (spared : List ℕ) where

@@ -19,7 +19,7 @@ use Rattle.iceoryx2_world.specs.declared.world.Phase.{Phase}
 use Rattle.iceoryx2_world.specs.declared.world.Ticket.{Ticket}
 use Rattle.iceoryx2_world.specs.Orders.{participant_cmp, participant_total, participant_exact, place_total, place_exact, tag_total, tag_exact}
 use Rattle.iceoryx2_world.specs.Sets as set
-use Rattle.iceoryx2_world.specs.World.{World, or_idle}
+use Rattle.iceoryx2_world.specs.World.{World, or_idle, phase_of}
 use Rattle.iceoryx2_table.specs.Holdings.{is_unfinished, held_ticket, held_service, held_tag, HasNoTicket, HasFinished, HasNoTag, IsHolding}
 use Rattle.iceoryx2_table.specs.declared.holdings.Holding.{Holding}
 use Rattle.iceoryx2_table.specs.declared.holdings.Holding.TheVariants as holding
@@ -95,11 +95,11 @@ module _ {K X : Type 0} {R : K → K → Ordering} (o : IsTotalOrder R) (p : K �
 
 -- ---- what a node has
 
-mapped : {A B : Type 0} (f : A → B) (o : Option A) (h : B) → option_map f o ≡ Some h → (e : A) × (o ≡ Some e) × (f e ≡ h)
+pub mapped : {A B : Type 0} (f : A → B) (o : Option A) (h : B) → option_map f o ≡ Some h → (e : A) × (o ≡ Some e) × (f e ≡ h)
 mapped f None h is = not_some h is
 mapped f (Some e) h is = (e, refl, some_is (f e) h is)
 
-unmapped : {A B : Type 0} (f : A → B) (o : Option A) → option_map f o ≡ None → o ≡ None
+pub unmapped : {A B : Type 0} (f : A → B) (o : Option A) → option_map f o ≡ None → o ≡ None
 unmapped f None is = refl
 unmapped f (Some e) is = not_some (f e) (sym is)
 
@@ -110,15 +110,12 @@ both_of false b e = absurd (cc)
 not_false : (b : Bool) → b ≡ true → b ≢ false
 not_false b is isnt = absurd (cc)
 
-abbrev with_node : ℕ → Ticket → Ticket
+abbrev pub with_node : ℕ → Ticket → Ticket
 with_node n x = record { node = n; hash = x.hash; number = x.number }
 
 module _ (w : World) (i : ℕ) where
   ticket_by : (e : ℕ × Ticket) → map.get w.tickets e.0 ≡ Some e.1 → e.1.node ≡ i → IsHolding w i (Some (holding.Ticket e.0 e.1.hash e.1.number))
   ticket_by e there is = there ∙ ap (λ n. Some (with_node n e.1)) is
-
-  service_by : (e : (Participant × ServiceHash) × Phase) → HasNoTicket w i → map.get w.phases e.0 ≡ Some e.1 → e.0.0 ≡ Node i → is_unfinished e.1 ≡ true → IsHolding w i (Some (holding.Service e.0.1 e.1))
-  service_by e none there is unfinished = (none, ap or_idle (subst (λ p. map.get w.phases (p, e.0.1) ≡ Some e.1) is there), unfinished)
 
   tag_by : (e : (ℕ × ServiceHash) × Unit {0}) → HasNoTicket w i → HasFinished w i → map.get w.tags e.0 ≡ Some e.1 → e.0.0 ≡ i → IsHolding w i (Some (holding.Tag e.0.1))
   tag_by e none finished there is = (none, finished, subst (λ n. set.contains w.tags (n, e.0.1) ≡ true) is (ap is_some there))
@@ -134,19 +131,27 @@ module _ (w : World) (i : ℕ) where
       let n = unmapped (λ e. holding.Ticket e.0 e.1.hash e.1.number) (first (λ e. e.1.node == i) (map.entries w.tickets)) is in
       not_false (x.node == i) (eq-eqb x.node i e) (none_in nat_cmp_total (λ (e : ℕ × Ticket). e.1.node == i) w.tickets exact_unsigned n t x there)
 
-  service_is : (h : Holding) → HasNoTicket w i → held_service i (map.entries w.phases) ≡ Some h → IsHolding w i (Some h)
-  service_is h none is =
+  -- a service that is found is one with which the node hasn't finished
+  pub service_found : (h : Holding) → held_service i (map.entries w.phases) ≡ Some h → (e : ServiceHash × Phase) × (holding.Service e.0 e.1 ≡ h)
+      × (phase_of w (Node i) e.0 ≡ e.1) × (is_unfinished e.1 ≡ true)
+  service_found h is =
       let test : (Participant × ServiceHash) × Phase → Bool = λ e. eq_by_cmp participant_cmp e.0.0 (Node i) && is_unfinished e.1 in
       let m = mapped (λ e. holding.Service e.0.1 e.1) (first test (map.entries w.phases)) h is in
       let f = found_in place_total test w.phases m.0 m.1 in
       let b = both_of _ _ f.1 in
-      subst (λ x. IsHolding w i (Some x)) m.2 (service_by m.0 none f.0 (participant_exact m.0.0.0 (Node i) ((Equal-is (participant_cmp m.0.0.0 (Node i))).0 b.0)) b.1)
+      let own : m.0.0.0 ≡ Node i = participant_exact m.0.0.0 (Node i) ((Equal-is (participant_cmp m.0.0.0 (Node i))).0 b.0) in
+      ((m.0.0.1, m.0.1), m.2, ap or_idle (subst (λ p. map.get w.phases (p, m.0.0.1) ≡ Some m.0.1) own f.0), b.1)
+
+  service_is : (h : Holding) → HasNoTicket w i → held_service i (map.entries w.phases) ≡ Some h → IsHolding w i (Some h)
+  service_is h none is =
+      let found = service_found h is in
+      subst (λ x. IsHolding w i (Some x)) found.1 (none, found.2, found.3)
 
   finished_at : (h : ServiceHash) (o : Option Phase) → ((x : Phase) → o ≡ Some x → (eq_by_cmp participant_cmp (Node i) (Node i) && is_unfinished x) ≡ false) → is_unfinished (or_idle o) ≡ false
   finished_at h None f = refl
   finished_at h (Some x) f = ap (λ (r : Ordering). is_eq r && is_unfinished x) (sym (tied_itself participant_total (Node i))) ∙ f x refl
 
-  finished : held_service i (map.entries w.phases) ≡ None → HasFinished w i
+  pub finished : held_service i (map.entries w.phases) ≡ None → HasFinished w i
   finished is h =
       let test : (Participant × ServiceHash) × Phase → Bool = λ e. eq_by_cmp participant_cmp e.0.0 (Node i) && is_unfinished e.1 in
       let n = unmapped (λ e. holding.Service e.0.1 e.1) (first test (map.entries w.phases)) is in

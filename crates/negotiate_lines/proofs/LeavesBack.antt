@@ -6,7 +6,8 @@ use Rattle.std.specs.Char.{is_digit}
 use Rattle.std.specs.Fmt.{digit_glyph}
 use Rattle.std.proofs.lemmas.Bool.{cases_Bool, cond-true, cond-false, both_ways, ne_eqb}
 use Rattle.std.proofs.lemmas.Bool.Decides.{nat_tests}
-use Rattle.percent_encoding.specs.AsciiSet.{should_percent_encode}
+use Rattle.percent_encoding.specs.declared.ascii_set.AsciiSet.{AsciiSet}
+use Rattle.percent_encoding.specs.AsciiSet.{contains, should_percent_encode}
 use Rattle.percent_encoding.specs.Percent.{percent_encode, percent_encode_byte}
 use Rattle.percent_encoding.proofs.AsciiSetLemmas.{escaped_from_inside}
 use Rattle.percent_encoding.proofs.PercentLemmas.{percent_encode-nil, percent_encode_escaped, percent_encode_kept, round_trip}
@@ -26,20 +27,22 @@ whole_escape b rest =
     let low = glyph_is_digit (b % 16) (omega arith) in
     rw (high, low) refl
 
-whole_kept : (b : ℕ) (rest : List ℕ) → should_percent_encode LEAF_ESCAPES b ≡ false → go_on 0 (b ∷ rest) ≡ go_on 0 rest
+-- what is escaped with each byte of a set that has `%`
+whole_kept : (set : AsciiSet) → contains set 37 ≡ true → (b : ℕ) (rest : List ℕ) → should_percent_encode set b ≡ false
+    → go_on 0 (b ∷ rest) ≡ go_on 0 rest
 unfolding go_on
-whole_kept b rest kept =
-    let other : b ≡ 37 → ⊥ = λ percent. both_ways _ kept (rw percent (escaped_from_inside LEAF_ESCAPES 37 refl)) in
+whole_kept set has b rest kept =
+    let other : b ≡ 37 → ⊥ = λ percent. both_ways _ kept (rw percent (escaped_from_inside set 37 has)) in
     rw (ne_eqb b 37 other) refl
 
-whole : (bytes : List ℕ) → are_whole (percent_encode LEAF_ESCAPES bytes) ≡ true
+whole : (set : AsciiSet) → contains set 37 ≡ true → (bytes : List ℕ) → are_whole (percent_encode set bytes) ≡ true
 unfolding go_on
-whole [] = rw percent_encode-nil refl
-whole (b ∷ bytes) =
+whole set has [] = rw percent_encode-nil refl
+whole set has (b ∷ bytes) =
     ⊎_elim
-    (λ e. rw (percent_encode_escaped LEAF_ESCAPES b bytes e) (whole_escape b (percent_encode LEAF_ESCAPES bytes) ∙ whole bytes))
-    (λ e. rw (percent_encode_kept LEAF_ESCAPES b bytes e) (whole_kept b (percent_encode LEAF_ESCAPES bytes) e ∙ whole bytes))
-    (cases_Bool (should_percent_encode LEAF_ESCAPES b))
+    (λ e. rw (percent_encode_escaped set b bytes e) (whole_escape b (percent_encode set bytes) ∙ whole set has bytes))
+    (λ e. rw (percent_encode_kept set b bytes e) (whole_kept set has b (percent_encode set bytes) e ∙ whole set has bytes))
+    (cases_Bool (should_percent_encode set b))
 
 lone_is_broken : go_on 0 (37 ∷ []) ≡ true → ⊥
 unfolding go_on
@@ -58,12 +61,16 @@ not_lone (b ∷ []) h =
     rw (ne_eqb b 37 other) refl
 not_lone (b ∷ c ∷ rest) h = and-false (eqb b 37)
 
+pub part_back : (set : AsciiSet) → contains set 37 ≡ true → (bytes : List ℕ) → AreBytes bytes
+    → bytes_of (percent_encode set bytes) ≡ Some bytes
+part_back set has bytes small =
+    cond-false _ _ _ (not_lone (percent_encode set bytes) (whole set has bytes))
+    ∙ cond-true _ _ _ (whole set has bytes) ∙ ap (λ (w : List ℕ). Some w) (round_trip set bytes has small)
+
 bytes_back : (bytes : List ℕ) → AreBytes bytes → bytes_of (leaf_of bytes) ≡ Some bytes
 unfolding leaf_of
 bytes_back [] small = refl
-bytes_back (b ∷ bytes) small =
-    cond-false _ _ _ (not_lone (percent_encode LEAF_ESCAPES (b ∷ bytes)) (whole (b ∷ bytes)))
-    ∙ cond-true _ _ _ (whole (b ∷ bytes)) ∙ ap (λ (w : List ℕ). Some w) (round_trip LEAF_ESCAPES (b ∷ bytes) refl small)
+bytes_back (b ∷ bytes) small = part_back LEAF_ESCAPES refl (b ∷ bytes) small
 
 pub back : (text : List ℕ) → IsUtf8 text → IsLeaf form.Escaped (leaf_of text) text
 back text is = (bytes_back text (are_bytes text is), is)

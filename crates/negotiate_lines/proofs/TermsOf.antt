@@ -10,13 +10,13 @@ use Rattle.std.proofs.lemmas.Str.Pattern.{IsSplitOnceResult, split_parts}
 use Rattle.negotiate_lines.specs.Terms.{terms_of}
 
 -- the parts that are terms
-abbrev chosen : List (List ℕ) → List (List ℕ)
+abbrev pub chosen : List (List ℕ) → List (List ℕ)
 chosen parts = filter (λ term. not (length term == 0)) parts
 
-abbrev parts_of : List ℕ → List (List ℕ)
+abbrev pub parts_of : List ℕ → List (List ℕ)
 parts_of bs = slice_split (λ b. eqb b 32) bs
 
-unequal : (a b : ℕ) → a ≢ b → eqb a b ≡ false
+pub unequal : (a b : ℕ) → a ≢ b → eqb a b ≡ false
 unequal a b h =
     elim (eqb_tells a b) [
       | inl same ↦ absurd (h same.1)
@@ -26,7 +26,7 @@ unequal a b h =
 lacks_all : (bs : List ℕ) → ((i : ℕ) → i < length bs → get_or bs i 0 ≢ 32) → All (λ b. eqb b 32 ≡ false) bs
 lacks_all bs lacks = All-from_get_or (λ b. eqb b 32 ≡ false) bs 0 (λ i within. unequal _ 32 (lacks i within))
 
-chosen_first : (p : List ℕ) (parts : List (List ℕ)) → (length p == 0) ≡ false → chosen (p ∷ parts) ≡ p ∷ chosen parts
+pub chosen_first : (p : List ℕ) (parts : List (List ℕ)) → (length p == 0) ≡ false → chosen (p ∷ parts) ≡ p ∷ chosen parts
 chosen_first p parts h = rw h refl
 
 chosen_after : (p : List ℕ) (parts : List (List ℕ)) → (length p == 0) ≡ true → chosen (p ∷ parts) ≡ chosen parts

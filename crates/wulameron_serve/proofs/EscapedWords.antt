@@ -1,80 +1,30 @@
 -- What a word is written as, and what it stands for.
-use Rattle.std.proofs.Common.{◌≡◌, ◌≢◌, ℕ, ◌<◌, ◌/◌, ◌%◌, Bool, true, false, ◌&&◌, List, [], ◌∷◌, ◌++◌, All, Some, ◌==◌, length, bytes_eq, codes, eqb, refl, sym, ap, subst, ◌∙◌, ⊎_elim, arith}
+use Rattle.std.proofs.Common.{◌≡◌, ◌≢◌, ℕ, ◌<◌, true, false, List, [], ◌∷◌, ◌++◌, All, Some, ◌==◌, length, codes, refl, sym, ap, subst, ◌∙◌, ⊎_elim, arith}
 use Rattle.std.specs.Str.{IsUtf8}
-use Rattle.std.specs.Char.{is_digit}
-use Rattle.std.specs.Fmt.{digit_glyph}
-use Rattle.std.proofs.lemmas.Bool.{cases_Bool, cond-true, cond-false, both_ways, ne_eqb}
+use Rattle.std.proofs.lemmas.Bool.{both_ways}
 use Rattle.std.proofs.lemmas.Bool.Decides.{nat_tests}
 use Rattle.std.proofs.lemmas.List.Elements.{All-nil, All-cons}
 use Rattle.percent_encoding.specs.AsciiSet.{should_percent_encode}
-use Rattle.percent_encoding.specs.Percent.{percent_encode, percent_encode_byte}
+use Rattle.percent_encoding.specs.Percent.{percent_encode}
 use Rattle.percent_encoding.proofs.AsciiSetLemmas.{escaped_from_inside}
 use Rattle.percent_encoding.proofs.OnLiterals.{percent_encoding_on_literals}
-use Rattle.percent_encoding.proofs.PercentLemmas.{percent_encode-nil, percent_encode-append, percent_encode_escaped, percent_encode_kept, percent_encode_nonempty, All-percent_encode, IsEscapeByte, round_trip}
+use Rattle.percent_encoding.proofs.PercentLemmas.{percent_encode-append, percent_encode_kept, percent_encode_nonempty, All-percent_encode, IsEscapeByte}
 use Rattle.negotiate_lines.specs.declared.leaf.Form.TheVariants as form
-use Rattle.negotiate_lines.specs.Leaves.{IsLeaf, bytes_of, go_on, are_whole}
+use Rattle.negotiate_lines.specs.Leaves.{IsLeaf, bytes_of}
+use Rattle.negotiate_lines.proofs.LeavesBack.{part_back}
 use Rattle.negotiate_lines.proofs.LeavesUtf8.{AreBytes, are_bytes}
 use Rattle.wulameron_serve.specs.declared.words.TheConstants.{WORD_ESCAPES}
 use Rattle.wulameron_serve.specs.Words.{PartsLeaves, word_of}
 
--- ---- the escapes of what is written are whole
-
-glyph_is_digit : (d : ℕ) → d < 16 → is_digit (digit_glyph true d) 16 ≡ true
-glyph_is_digit d small = grind (arith, nat_tests)
-
-whole_escape : (b : ℕ) (rest : List ℕ) → go_on 0 (percent_encode_byte b ++ rest) ≡ go_on 0 rest
-unfolding go_on percent_encode_byte
-whole_escape b rest =
-    let high = glyph_is_digit (b / 16 % 16) (omega arith) in
-    let low = glyph_is_digit (b % 16) (omega arith) in
-    rw (high, low) refl
-
-whole_kept : (b : ℕ) (rest : List ℕ) → should_percent_encode WORD_ESCAPES b ≡ false → go_on 0 (b ∷ rest) ≡ go_on 0 rest
-unfolding go_on
-whole_kept b rest kept =
-    let other : b ≡ 37 → ⊥ = λ percent. both_ways _ kept (rw percent (escaped_from_inside WORD_ESCAPES 37 refl)) in
-    rw (ne_eqb b 37 other) refl
-
-whole : (bytes : List ℕ) → are_whole (percent_encode WORD_ESCAPES bytes) ≡ true
-unfolding go_on
-whole [] = rw percent_encode-nil refl
-whole (b ∷ bytes) =
-    ⊎_elim
-    (λ e. rw (percent_encode_escaped WORD_ESCAPES b bytes e) (whole_escape b (percent_encode WORD_ESCAPES bytes) ∙ whole bytes))
-    (λ e. rw (percent_encode_kept WORD_ESCAPES b bytes e) (whole_kept b (percent_encode WORD_ESCAPES bytes) e ∙ whole bytes))
-    (cases_Bool (should_percent_encode WORD_ESCAPES b))
-
-lone_is_broken : go_on 0 (37 ∷ []) ≡ true → ⊥
-unfolding go_on
-lone_is_broken h = absurd (let wrong : false ≡ true = h in cc)
-
-and-false : (b : Bool) → (b && false) ≡ false
-and-false true = refl
-and-false false = refl
-
--- the leaf `%` isn't whole, and what is escaped is
-not_lone : (leaf : List ℕ) → are_whole leaf ≡ true → bytes_eq leaf (codes "%") ≡ false
-unfolding go_on
-not_lone [] h = refl
-not_lone (b ∷ []) h =
-    let other : b ≡ 37 → ⊥ = λ percent. lone_is_broken (subst (λ n. go_on 0 (n ∷ []) ≡ true) percent h) in
-    rw (ne_eqb b 37 other) refl
-not_lone (b ∷ c ∷ rest) h = and-false (eqb b 37)
-
 -- ---- what is written stands for what was given
-
-part_back : (bytes : List ℕ) → AreBytes bytes → bytes_of (percent_encode WORD_ESCAPES bytes) ≡ Some bytes
-part_back bytes small =
-    cond-false _ _ _ (not_lone (percent_encode WORD_ESCAPES bytes) (whole bytes))
-    ∙ cond-true _ _ _ (whole bytes) ∙ ap (λ (w : List ℕ). Some w) (round_trip WORD_ESCAPES bytes refl small)
 
 word_back : (bytes : List ℕ) → AreBytes bytes → bytes_of (word_of bytes) ≡ Some bytes
 unfolding word_of
 word_back [] small = refl
-word_back (b ∷ bytes) small = part_back (b ∷ bytes) small
+word_back (b ∷ bytes) small = part_back WORD_ESCAPES refl (b ∷ bytes) small
 
 pub part : (text : List ℕ) → IsUtf8 text → IsLeaf form.Escaped (percent_encode WORD_ESCAPES text) text
-part text is = (part_back text (are_bytes text is), is)
+part text is = (part_back WORD_ESCAPES refl text (are_bytes text is), is)
 
 pub leaf : (text : List ℕ) → IsUtf8 text → IsLeaf form.Escaped (word_of text) text
 leaf text is = (word_back text (are_bytes text is), is)

@@ -1,12 +1,13 @@
 -- The third term of a line.
-use Rattle.std.proofs.Common.{◌≡◌, ◌≢◌, ◌⊎◌, inl, inr, ℕ, ◌+◌, ◌-◌, ◌==◌, Bool, true, false, List, [], ◌∷◌, ◌++◌, codes, cond, drop, eqb, filter, length, take, append-nil, append_assoc, arith, refl, sym, ap, subst, ◌∙◌}
+use Rattle.std.proofs.Common.{◌≡◌, ◌≢◌, ◌⊎◌, inl, inr, ℕ, ◌+◌, ◌-◌, ◌==◌, Bool, true, false, List, [], ◌∷◌, ◌++◌, codes, cond, drop, eqb, length, take, append-nil, append_assoc, arith, refl, sym, ap, subst, ◌∙◌}
 use Rattle.std.specs.Prelude.{not}
-use Rattle.std.specs.List.{All, onto_first, slice_split}
+use Rattle.std.specs.List.{All, onto_first}
 use Rattle.std.proofs.lemmas.Bool.Decides.{eqb_tells}
 use Rattle.std.proofs.lemmas.List.{drop_at, length-append, take_at}
 use Rattle.std.proofs.lemmas.List.Elements.{All-cons, All-head, All-nil, All-push, All-tail, All-weaker, filter-append}
 use Rattle.std.proofs.lemmas.List.Splits.{slice_split_none}
 use Rattle.negotiate_lines.specs.Terms.{terms_of}
+use Rattle.negotiate_lines.proofs.TermsOf.{chosen, chosen_first, parts_of, unequal}
 use Rattle.wulameron_serve.specs.Own.{EndsTerm, IsBehindSpaces, IsBehindWord, IsFromThird, IsOwnAt}
 
 -- ---- loops
@@ -17,22 +18,6 @@ all_pushed P text front rest byte behind are all is passes =
     (front ++ byte ∷ [], are ∙ ap (λ (t : List ℕ). front ++ t) is ∙ sym (append_assoc front (byte ∷ []) behind), All-push P front byte all passes)
 
 -- ---- terms
-
-abbrev chosen : List (List ℕ) → List (List ℕ)
-chosen parts = filter (λ term. not (length term == 0)) parts
-
-abbrev parts_of : List ℕ → List (List ℕ)
-parts_of bs = slice_split (λ b. eqb b 32) bs
-
-unequal : (a b : ℕ) → a ≢ b → eqb a b ≡ false
-unequal a b h =
-    elim (eqb_tells a b) [
-      | inl same ↦ absurd (h same.1)
-      | inr other ↦ other.0
-    ]
-
-chosen_first : (p : List ℕ) (parts : List (List ℕ)) → (length p == 0) ≡ false → chosen (p ∷ parts) ≡ p ∷ chosen parts
-chosen_first p parts h = rw h refl
 
 not_empty : (byte : ℕ) (word : List ℕ) → (length (byte ∷ word) == 0) ≡ false
 not_empty byte word = unequal (length (byte ∷ word)) 0 (λ e. omega (arith, e))
