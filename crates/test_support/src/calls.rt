@@ -4,8 +4,7 @@
 use iceoryx2_access::storage::Service;
 use iceoryx2_attribute::attribute::{AttributeSpecifier, AttributeVerifier};
 use iceoryx2_builder::builder::{Builder, event, publish_subscribe, request_response};
-use iceoryx2_builder::command::{self as commands, Command, How, Refusal, Settings};
-use iceoryx2_description::description::ServiceName;
+use iceoryx2_builder::command::{How, Refusal};
 use iceoryx2_description::time::{ClockFault, Time};
 use iceoryx2_rounds::port_factory::Registration;
 use iceoryx2_types::types::{CustomHeaderMarker, CustomPayloadMarker, Slice, ZeroCopySend};
@@ -128,26 +127,4 @@ impl<S: Service, Q: ZeroCopySend, QU: ZeroCopySend, R: ZeroCopySend, RU: ZeroCop
             RequestResponseCreate, RequestResponseOpen, RequestResponseOpenOrCreate
         }
     }
-}
-
-/// How, by which node and into which slot a service is called for.
-pub type Place = (How, u64, usize);
-
-/// The command of that call.
-pub fn command(
-    (how, node, slot): Place,
-    name: ServiceName,
-    settings: Settings,
-    attributes: AttributeVerifier,
-    now: Now,
-) -> Command {
-    Command::Call(commands::Call {
-        how,
-        node,
-        slot,
-        name,
-        settings,
-        attributes,
-        now,
-    })
 }

@@ -7,10 +7,9 @@
 
 pub mod calls;
 pub mod lines;
-pub mod patterns;
 pub mod places;
 pub mod plain;
 pub mod refusing;
-pub mod settings;
+mod settings;
 mod standing;
 pub mod terms;

@@ -40,14 +40,6 @@ pub enum Mode {
 pub const MODES: [Mode; 2] = [Mode::Alone, Mode::AndLater];
 
 impl Mode {
-    /// What it is called.
-    pub fn name(self) -> &'static str {
-        match self {
-            Mode::Alone => "each request alone",
-            Mode::AndLater => "each request and all later ones",
-        }
-    }
-
     /// The order that refuses the request of this number.
     pub fn refusing(self, number: u16) -> Refusing {
         match self {
@@ -84,7 +76,7 @@ fn were_refused(alloc: Global, number: u16) -> bool {
 }
 
 /// Whether orders are obeyed.
-pub fn is_obeyed(alloc: Global) -> bool {
+fn is_obeyed(alloc: Global) -> bool {
     were_refused(alloc, 0) && !were_refused(alloc, NEVER)
 }
 
@@ -104,11 +96,4 @@ pub fn end(alloc: Global) -> Refused {
     let refused = how_many(alloc);
     refuse_none(alloc);
     refused
-}
-
-/// Asks for a byte, and does as `end` does. So what was refused before is told apart from an order that
-/// isn't obeyed any more.
-pub fn end_with_a_request(alloc: Global) -> Refused {
-    let _ = ask(alloc, 1);
-    end(alloc)
 }
