@@ -21,10 +21,13 @@ pub mod builder;
 pub mod laws;
 mod promise;
 pub mod session;
+pub mod shared;
+pub mod table;
 
+pub use iceoryx2_access::storage;
 pub use iceoryx2_builder::command;
 pub use iceoryx2_call_laws::{fault_laws, quiet_laws};
 pub use iceoryx2_data::{attribute, bytes, description};
 pub use iceoryx2_rounds::port_factory;
-pub use iceoryx2_storage::{script, shared, storage, table, traced};
+pub use iceoryx2_testing::{script, traced};
 pub use iceoryx2_types::types;
