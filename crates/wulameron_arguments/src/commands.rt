@@ -15,15 +15,17 @@ const CALLS: &[&str] = &["create", "open", "open_or_create"];
 /// When texts have colours.
 const COLOURS: &[&str] = &["auto", "always", "never"];
 
-/// Where a help has the options that every command takes, except `--at`: behind the command's own.
+/// The place in a help of the options that every command takes, except `--at`: after the command's own.
 const LAST: usize = 100;
 
-/// How something is given.
+/// How a value is given.
 #[derive(Clone, Copy)]
 enum Given {
     /// By an option that takes no value.
     Flag,
-    /// By an option that takes a text, which a help calls so.
+    /// By an option that takes no value, or by this letter.
+    ShortFlag(char),
+    /// By an option that takes a text. The help calls the text so.
     Text(&'static str),
     /// By an option that takes a number, the second if it is left out.
     Number(&'static str, Option<&'static str>),
@@ -87,8 +89,20 @@ const JSON_LINES: Row = Row(
 
 const QUIET: Row = Row(
     "quiet",
-    Given::Flag,
+    Given::ShortFlag('q'),
     "Prints only names, or numbers of nodes",
+);
+
+const WAIT: Row = Row(
+    "wait",
+    Given::Number("MILLISECONDS", Some("500")),
+    "How long to try while others hold the log",
+);
+
+const PSQL: Row = Row(
+    "psql",
+    Given::Text("PIPES"),
+    "Set by wulameron-postgres: the pipes to psql",
 );
 
 /// The options that don't go together.
@@ -247,22 +261,22 @@ const COMMANDS: &[CommandRow] = &[
     },
 ];
 
-/// What the program takes. `home` is the log where no word names one.
+/// Returns what the program takes. `home` is the log that is used if no word names one.
 pub(crate) fn command<'a>(alloc: Global, home: Option<&'a str>) -> Result<Command<'a>, AllocError> {
     let mut command = Command::new(alloc, "wulameron")
         .version(VERSION)
         .about("Creates and opens named services over a log that processes share")
         .subcommand_required(true)
         .arg(at(alloc, home))?
-        .arg(wait(alloc))?
-        .arg(psql(alloc))?;
+        .arg(behind(alloc, &WAIT, LAST))?
+        .arg(behind(alloc, &PSQL, LAST + 1))?;
     for row in COMMANDS {
         command = command.subcommand(command_of(alloc, row)?)?;
     }
     Ok(command)
 }
 
-/// The command of a row, which has the program's version.
+/// Returns the command of a row, which has the program's version.
 fn command_of<'a>(alloc: Global, row: &CommandRow) -> Result<Command<'a>, AllocError> {
     let mut command = Command::new(alloc, row.name)
         .version(VERSION)
@@ -273,7 +287,7 @@ fn command_of<'a>(alloc: Global, row: &CommandRow) -> Result<Command<'a>, AllocE
     Ok(command)
 }
 
-/// The option or word of a row.
+/// Returns the option or word of a row.
 fn arg_of<'a>(alloc: Global, row: &Row) -> Result<Arg<'a>, AllocError> {
     let Row(name, given, help) = *row;
     let mut arg = with_value(Arg::new(alloc, name).help(help), name, given);
@@ -285,14 +299,20 @@ fn arg_of<'a>(alloc: Global, row: &Row) -> Result<Arg<'a>, AllocError> {
     Ok(arg)
 }
 
-/// An option or a word with the value that it takes.
+/// Returns an option or a word with the value that it takes.
 fn with_value<'a>(arg: Arg<'a>, name: &'static str, given: Given) -> Arg<'a> {
     let arg = arg.action(ArgAction::Set);
     match given {
-        Given::Flag => flag(arg.long(name), name),
+        Given::Flag => arg.long(name).action(ArgAction::SetTrue),
+        Given::ShortFlag(letter) => arg.long(name).short(letter).action(ArgAction::SetTrue),
         Given::Text(value) => arg.long(name).value_name(value),
         Given::Number(value, default) => {
-            with_default(number(arg.long(name).value_name(value)), default)
+            with_default(
+                arg.long(name)
+                    .value_name(value)
+                    .value_parser(value_parser!(u64)),
+                default,
+            )
         }
         Given::OneOf(value, words, default) => {
             with_default(
@@ -302,7 +322,7 @@ fn with_value<'a>(arg: Arg<'a>, name: &'static str, given: Given) -> Arg<'a> {
         }
         Given::Word(value) => arg.required(true).value_name(value),
         Given::WordOf(value, words) => arg.required(true).value_name(value).value_parser(words),
-        Given::MaybeNumber(value) => number(arg.value_name(value)),
+        Given::MaybeNumber(value) => arg.value_name(value).value_parser(value_parser!(u64)),
         Given::Words(value) => arg
             .action(ArgAction::Append)
             .num_args(0..)
@@ -310,16 +330,7 @@ fn with_value<'a>(arg: Arg<'a>, name: &'static str, given: Given) -> Arg<'a> {
     }
 }
 
-/// An option that takes no value.
-fn flag<'a>(arg: Arg<'a>, name: &'static str) -> Arg<'a> {
-    let arg = arg.action(ArgAction::SetTrue);
-    if name == "quiet" {
-        return arg.short('q');
-    }
-    arg
-}
-
-/// The same with what it is if it is left out.
+/// Returns it with the value that it has if it is left out.
 fn with_default<'a>(arg: Arg<'a>, default: Option<&'static str>) -> Arg<'a> {
     match default {
         Some(value) => arg.default_value(value),
@@ -327,12 +338,7 @@ fn with_default<'a>(arg: Arg<'a>, default: Option<&'static str>) -> Arg<'a> {
     }
 }
 
-/// The same of a number.
-fn number<'a>(arg: Arg<'a>) -> Arg<'a> {
-    arg.value_parser(value_parser!(u64))
-}
-
-/// The log, before a command or after it.
+/// Returns the option for the log, before a command or after it.
 fn at<'a>(alloc: Global, home: Option<&'a str>) -> Arg<'a> {
     let at = Arg::new(alloc, "at")
         .long("at")
@@ -346,24 +352,10 @@ fn at<'a>(alloc: Global, home: Option<&'a str>) -> Arg<'a> {
     }
 }
 
-/// How long it is tried to hold the log.
-fn wait<'a>(alloc: Global) -> Arg<'a> {
-    number(behind(alloc, "wait", "MILLISECONDS", LAST))
-        .default_value("500")
-        .help("How long to try while others hold the log")
-}
-
-/// The pipes to the database's client.
-fn psql<'a>(alloc: Global) -> Arg<'a> {
-    behind(alloc, "psql", "PIPES", LAST + 1).help("Set by wulameron-postgres: the pipes to psql")
-}
-
-/// An option of every command, of which the help is behind those of the command.
-fn behind<'a>(alloc: Global, name: &'static str, value: &'static str, order: usize) -> Arg<'a> {
-    Arg::new(alloc, name)
-        .long(name)
-        .action(ArgAction::Set)
-        .value_name(value)
+/// Returns an option of every command with the value that it takes. Its help follows those of the command.
+fn behind<'a>(alloc: Global, row: &Row, order: usize) -> Arg<'a> {
+    let Row(name, given, help) = *row;
+    with_value(Arg::new(alloc, name).help(help), name, given)
         .global(true)
         .display_order(order)
 }
