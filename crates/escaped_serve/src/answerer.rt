@@ -1,4 +1,4 @@
-//! What answers the lines of an escaped session.
+//! Answers the lines of an escaped session.
 
 ghost use Rattle.std.specs.Prelude.{OnOk, ℕ, List, string_bytes};
 ghost use Rattle.iceoryx2_session.specs.SessionStates.{own_state};
@@ -24,19 +24,18 @@ use negotiate_serve::answerer::{Answerer, slot_of};
 use negotiate_serve::reply::describe;
 use std::alloc::{AllocError, Global};
 
-/// What answers escaped lines: commands in escaped texts, and questions. Plain commands are answered as an `Answerer`
-/// does.
+/// Answers escaped lines: commands in escaped texts, and questions. It answers plain commands as an `Answerer` does.
 pub trait Asked: Answerer {
-    /// How the command of an escaped line is answered, and what that makes of the answerer.
+    /// How the command of an escaped line is answered, and the answerer after it.
     ghost answers_escaped: { Answering Self };
 
-    /// How a question is answered, and what that makes of it.
+    /// How a question is answered, and the answerer after it.
     ghost asked: { AnsweringQuestions Self };
 
     /// Carries out the command of an escaped line, and writes the answer into the text.
     ///
-    /// `AllocError` where memory runs out outside a call. The text may then have a part of the answer, and
-    /// what holds of the answerer still does.
+    /// `AllocError` if memory runs out outside a call. The text may then have a part of the answer, and what holds of
+    /// the answerer still does.
     fn answer_escaped(
         &mut self,
         line: &[u8],
@@ -56,13 +55,13 @@ pub trait Asked: Answerer {
         ensures stands { Self.stands self.old → Self.stands self.new };
 }
 
-/// A session over a table of its own, from whose slots what they hold can be abandoned.
+/// A session over a table of its own. What its slots hold can be abandoned.
 pub struct TableAnswerer {
     session: Session<Table>,
 }
 
 impl TableAnswerer {
-    /// With an empty table. All slots are free.
+    /// Returns an answerer with an empty table. All slots are free.
     pub fn new(alloc: Global) -> TableAnswerer
         ensures { ShowsSome (own_state result.session) }
     {
@@ -72,7 +71,7 @@ impl TableAnswerer {
     }
 }
 
-/// What the session holds is closed.
+/// Closes what the session holds.
 impl Drop for TableAnswerer {
     fn drop(self) {
         let TableAnswerer { session } = self;

@@ -33,9 +33,9 @@ use std::alloc::{AllocError, Global};
 
 /// Appends the line, without its end, that asks for what was agreed on.
 ///
-/// It is a create of this node for this slot, with each setting of the pattern in the order of its vocabulary but the
-/// alignments, which types tell, and then the attributes in their order. Its leaves are escaped. `AllocError` where the
-/// text finds no memory; it may have a part of the line then.
+/// It is a create of this node for this slot. It has each setting of the pattern in the order of its vocabulary, except
+/// the alignments, which types tell, and then the attributes in their order. Its leaves are escaped. `AllocError` if
+/// the text finds no memory; it may have a part of the line then.
 pub fn write_asking(
     node: u64,
     slot: usize,
@@ -51,7 +51,7 @@ pub fn write_asking(
     write_pairs(description.attributes().pairs(), text)
 }
 
-/// Appends the term by which calls of the pattern begin.
+/// Appends the term with which calls of the pattern begin.
 fn write_pattern(pattern: &MessagingPattern, text: &mut String) -> Result<(), AllocError>
     ensures { OnOk result (Appends text.old text.new (pattern_word pattern.now)) }
 {
@@ -184,7 +184,7 @@ fn write_variant(variant: TypeVariant, text: &mut String) -> Result<(), AllocErr
 
 // ---- the settings of each pattern
 
-/// Writes the terms of these settings in order: of each how it is written, and its name.
+/// Writes the terms of these settings in order, for each how it is written, and its name.
 macro_rules! write_each {
     ($settings:expr, $text:expr; $($write:ident $name:ident;)*) => {
         $($write(stringify!($name), $settings.$name, $text)?;)*
@@ -217,7 +217,7 @@ fn write_events(settings: &event::StaticConfig, text: &mut String) -> Result<(),
     write_time("deadline", deadline_value(settings.deadline), text)
 }
 
-/// A deadline's length, without the time of creation.
+/// Returns a deadline's length, without the time of creation.
 fn deadline_value(deadline: Option<Deadline>) -> Option<Duration>
     ensures { result ≡ value_of deadline }
 {
@@ -303,21 +303,22 @@ fn write_pair(pair: &Attribute, text: &mut String) -> Result<(), AllocError>
     escape_leaf(pair.value().as_bytes(), text)
 }
 
-/// What is written of a value means the value, whatever its kind.
+/// States that what is written of a value means the value, whatever its kind.
 pub fn law_of_shown_values<S>()
     ensures { (takes : Takes S) (value : ValueOf takes) → IsValue takes value
         → Sets form.Escaped takes (value_text takes value) (setter_with takes value) }
 {}
 
-/// A line asks for each setting of its pattern in the order of its vocabulary, but for the alignments: types tell them.
+/// States that a line asks for each setting of its pattern in the order of its vocabulary, except the alignments: types
+/// tell them.
 pub fn law_of_asked_settings()
     ensures events { (s : EventConfig) → rows_asked (event_settings s) ≡ rows_to_ask event_vocabulary }
     ensures samples { (s : SampleConfig) → rows_asked (sample_settings s) ≡ rows_to_ask publish_subscribe_vocabulary }
     ensures requests { (s : RequestConfig) → rows_asked (request_settings s) ≡ rows_to_ask request_response_vocabulary }
 {}
 
-/// What is written of a description within its limits is one line of printable ASCII, for a node below 2^64 and a slot
-/// of a session. Read as an escaped line, it is a call that asks for the same, and it is nothing else.
+/// States that what is written of a description within its limits is one line of printable ASCII, for a node below 2^64
+/// and a slot of a session. Read as an escaped line, it is a call that asks for the same, and it is nothing else.
 pub fn law_of_asking(alloc: Global)
     ensures again { (node slot : ℕ) (d : Description) → node < 2 ^ 64 → slot < slot_count → IsDescription d
         → IsAskedAgain node slot d }

@@ -13,8 +13,8 @@ use negotiate_lines::leaf::escape_leaf;
 use negotiate_serve::reply::term_of;
 use std::alloc::{AllocError, Global};
 
-/// Writes how many entries there are, and each, in their order, in one line. `AllocError` where there is no memory for
-/// the text, or for what is read of a description.
+/// Writes in one line how many entries there are, and each, in their order. `AllocError` if there is no memory for the
+/// text, or for reading a description.
 pub fn describe_entries(entries: &[Entry], text: &mut String) -> Result<(), AllocError>
     ensures { OnOk result (GrowsBy (TellsEntries entries.now) (string_bytes text.old) (string_bytes text.new)) }
 {
@@ -94,7 +94,7 @@ fn service_number(row: &ListedRow, segment: Option<ListedSegment>) -> u64
     }
 }
 
-/// How many nodes a service has, and how many it is for.
+/// Returns how many nodes a service has, and how many it is for.
 fn nodes_in(segment: Option<ListedSegment>) -> (u64, u64)
     ensures nodes { result.0 ≡ nodes_of segment }
     ensures most { result.1 ≡ max_nodes_of segment }
@@ -105,7 +105,7 @@ fn nodes_in(segment: Option<ListedSegment>) -> (u64, u64)
     }
 }
 
-/// The description of a row, where it is published and its bytes are one. `AllocError` where there is no memory.
+/// Returns the description of a row, if it is published and its bytes are one. `AllocError` if there is no memory.
 fn description_of(alloc: Global, row: &ListedRow) -> Result<Option<StaticConfig>, AllocError>
     ensures { IfOk result (Describes row.now) }
 {
@@ -129,7 +129,7 @@ fn pattern_of(known: &Option<StaticConfig>) -> &'static str
     }
 }
 
-/// Writes the name as a leaf, and `%` where it isn't known.
+/// Writes the name as a leaf, and `%` if it isn't known.
 fn describe_name(known: &Option<StaticConfig>, text: &mut String) -> Result<(), AllocError>
     ensures { OnOk result (string_bytes text.new ≡ string_bytes text.old ++ known_name known.now) }
 {

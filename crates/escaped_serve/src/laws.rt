@@ -1,4 +1,4 @@
-//! That answers are lines.
+//! States that answers are lines.
 
 ghost use Rattle.std.specs.Prelude.{◌≡◌, ◌<◌, ◌^◌, ℕ, All, List, Option, length};
 ghost use Rattle.iceoryx2_access.specs.Registered.{Registered};
@@ -13,8 +13,9 @@ ghost use Rattle.escaped_serve.specs.Questions.{IsBytesReply, abandoned_reply, o
 ghost use Rattle.escaped_serve.specs.Questions.{shown_reply};
 ghost use Rattle.escaped_serve.specs.Replies.{IsEscapedReply};
 
-/// Each answer is one line of printable ASCII, whatever is within its limits: to a command, unless it is a listing, to
-/// each question, and to a plain line. What is told of a line that is wrong has words of that line, and isn't covered.
+/// States that each answer is one line of printable ASCII, if everything is within its limits: to a command, unless it
+/// is a listing, to each question, and to a plain line. What is told of a wrong line has words of that line, and isn't
+/// covered.
 pub fn law_of_one_line()
     ensures replies { (slot : ℕ) (r : Reply) (text : List ℕ) → slot < slot_count → IsShort r
         → IsEscapedReply slot r text → IsOneLine text }

@@ -23,8 +23,8 @@ use negotiate_serve::answerer::Answerer;
 use negotiate_serve::lines::{Lines, reply_wrong};
 use std::alloc::AllocError;
 
-/// Room for each reply to a plain command but a listing. So that there is memory for the reply to what changes
-/// something, it is asked for before.
+/// Room for each reply to a plain command except a listing. It is asked for before a command that changes something, so
+/// that there is memory for its reply.
 const SHORT_REPLY: usize = 256;
 
 /// Escaped lines: commands, questions, and whole plain lines. Each line that isn't blank has a reply, and none ends the
@@ -51,7 +51,7 @@ impl<A: Asked> Lines<A> for EscapedLines {
     }
 }
 
-/// Answers a line as what it is. A line that is a command is none of the others, so it is looked for first.
+/// Answers a line as what it is. A line that is a command is nothing else, so that is tried first.
 fn answer_request<A: Asked>(
     line: &[u8],
     answerer: &mut A,
@@ -69,7 +69,7 @@ fn answer_request<A: Asked>(
     answer_known(line, known, answerer, text)
 }
 
-/// Whether a line begins with no word of a command.
+/// Returns whether a line begins with no word of a command.
 fn begins_otherwise(known: &Line<'_>) -> bool
     ensures { result ≡ begins_otherwise known.now }
 {
@@ -134,7 +134,7 @@ fn answer_question<A: Asked>(
     }
 }
 
-/// Tells that what stands behind a word of a question isn't what it takes.
+/// Tells that a word of a question doesn't take what follows it.
 fn answer_no_question(word: &str, text: &mut String) -> Result<(), AllocError>
     ensures { OnOk result (string_bytes text.new ≡ string_bytes text.old ++ no_question_reply word.now) }
 {
@@ -146,7 +146,7 @@ fn answer_no_question(word: &str, text: &mut String) -> Result<(), AllocError>
     )
 }
 
-/// Carries out a whole plain line, without its end, and answers what would be written of it.
+/// Carries out a whole plain line, without its end, and answers with what would be written of it.
 fn answer_plain<A: Answerer>(
     line: &[u8],
     answerer: &mut A,
@@ -171,7 +171,7 @@ fn answer_plain<A: Answerer>(
     }
 }
 
-/// Writes a text as a leaf behind a word, in one line.
+/// Writes a text as a leaf after a word, in one line.
 fn write_told(word: &str, told: &str, text: &mut String) -> Result<(), AllocError>
     ensures { OnOk result (string_bytes text.new
         ≡ string_bytes text.old ++ (word.now ++ (leaf_of told.now ++ codes "\n"))) }

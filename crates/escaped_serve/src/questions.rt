@@ -1,4 +1,4 @@
-//! What is answered to questions over any storage that shows a world.
+//! Answers questions over any storage that shows a world.
 
 ghost use Rattle.std.specs.Prelude.{◌≡◌, ◌++◌, IfOk, OnErr, OnOk, slice_set, string_bytes, None, Some};
 ghost use Rattle.iceoryx2_session.specs.SessionStates.{own_nodes, own_state, world_state};
@@ -27,10 +27,10 @@ use negotiate_lines::leaf::escape_leaf;
 use negotiate_lines::question::Question;
 use std::alloc::{AllocError, Global};
 
-/// Answers a question, by one line. What only a log can be asked has the answer that it is so. A plain line isn't asked
-/// here. Makes no access.
+/// Answers a question, by one line. A question that only a log can answer has an answer that says so. A plain line
+/// isn't asked here. Makes no access.
 ///
-/// `AllocError` where there is no memory for the answer, of which the text may then have a part. Nothing changed then.
+/// `AllocError` if there is no memory for the answer, of which the text may then have a part. Then nothing changed.
 pub fn answer_question<S: WorldStorage>(
     session: &mut Session<S>,
     question: &Question,
@@ -93,7 +93,7 @@ fn describe_agreed(slot: usize, held: &Registration, text: &mut String) -> Resul
     )
 }
 
-/// A number, or `none`.
+/// Returns a number, or `none`.
 fn number_text(alloc: Global, number: Option<u64>) -> Result<String, AllocError>
     ensures { IfOk result (λ text. string_bytes text ≡ number_or_none number) }
 {
@@ -103,7 +103,7 @@ fn number_text(alloc: Global, number: Option<u64>) -> Result<String, AllocError>
     }
 }
 
-/// A time, or `none`.
+/// Returns a time, or `none`.
 fn time_text(alloc: Global, time: Option<Time>) -> Result<String, AllocError>
     ensures { IfOk result (λ text. string_bytes text ≡ time_or_none time) }
 {
@@ -117,7 +117,7 @@ fn time_text(alloc: Global, time: Option<Time>) -> Result<String, AllocError>
     }
 }
 
-/// The line that asks for what was agreed on.
+/// Returns the line that asks for what was agreed on.
 fn asking_text(
     alloc: Global,
     node: u64,
@@ -131,7 +131,7 @@ fn asking_text(
     Ok(text)
 }
 
-/// When a service was created, where one of events tells it.
+/// Returns when a service was created, if a service of events tells it.
 fn created_of(pattern: &MessagingPattern) -> Option<Time>
     ensures { result ≡ created_of pattern.now }
 {
@@ -170,7 +170,7 @@ fn describe_bytes(slot: usize, held: &Registration, text: &mut String) -> Result
     writeln!(text, "bytes {slot} {digits}")
 }
 
-/// Lets go of what a slot holds, once that is written.
+/// Lets go of what a slot holds, after it has written so.
 fn abandon<S: WorldStorage>(
     session: &mut Session<S>,
     slot: usize,
@@ -191,7 +191,7 @@ fn abandon<S: WorldStorage>(
     Ok(())
 }
 
-/// Writes what an abandon of a slot is answered.
+/// Writes the answer to an abandon of a slot.
 fn write_abandoned<S: WorldStorage>(
     session: &Session<S>,
     slot: usize,
@@ -244,7 +244,7 @@ fn describe_row(number: u64, refusal: Refusal, text: &mut String) -> Result<(), 
     )
 }
 
-/// A text as a leaf.
+/// Returns a text as a leaf.
 fn leaf_text(alloc: Global, source: &str) -> Result<String, AllocError>
     ensures { IfOk result (λ text. string_bytes text ≡ leaf_of source.now) }
 {

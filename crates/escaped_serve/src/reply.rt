@@ -11,7 +11,7 @@ use std::alloc::AllocError;
 
 /// Writes the text of a reply to a command for this slot: a line, and for a listing a line for each service before it.
 ///
-/// `AllocError` where the text finds no memory, and where the reply is that there was none.
+/// `AllocError` if the text finds no memory, or if the reply is that there was none.
 pub fn describe_escaped(reply: &Reply, slot: usize, text: &mut String) -> Result<(), AllocError>
     ensures { OnOk result (GrowsBy (IsEscapedReply slot reply.now) (string_bytes text.old) (string_bytes text.new)) }
 {

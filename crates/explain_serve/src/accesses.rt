@@ -6,9 +6,9 @@ ghost use Rattle.explain_serve.specs.Accesses.{entry_lines, forgotten_line, trac
 use iceoryx2_testing::traced::Traced;
 use std::alloc::AllocError;
 
-/// Writes the latest accesses of a traced storage, so many as a call made, oldest first: how many of them
-/// aren't kept, where any aren't, and then a line for each entry. `AllocError` where the text finds no
-/// memory; it may then have some of the lines.
+/// Writes the latest accesses of a traced storage, as many as a call made, oldest first: how many of them aren't kept,
+/// if any aren't, and then a line for each entry. `AllocError` if the text finds no memory; it may then have some of
+/// the lines.
 pub fn describe_accesses<S>(
     traced: &Traced<S>,
     made: u64,
@@ -21,7 +21,7 @@ pub fn describe_accesses<S>(
     describe_from(kept.saturating_sub(made as usize), traced, text)
 }
 
-/// Writes how many accesses before the first entry were forgotten, where any were.
+/// Writes how many accesses before the first entry were forgotten, if any were.
 fn describe_forgotten(forgotten: u64, text: &mut String) -> Result<(), AllocError>
     ensures { OnOk result (string_bytes text.new ≡ string_bytes text.old ++ forgotten_line forgotten) }
 {

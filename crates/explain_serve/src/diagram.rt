@@ -9,12 +9,12 @@ ghost use Rattle.explain_serve.specs.Diagrams.{escaped, message_lines, messages,
 use iceoryx2_testing::traced::{Traced, TracedAccess};
 use std::alloc::AllocError;
 
-/// What a diagram begins with.
+/// The beginning of a diagram.
 pub const HEAD: &str = "sequenceDiagram\n    participant storage\n";
 
-/// Writes the latest accesses of a traced storage, so many as a command made, as messages between a node
-/// and the storage. Each is of the node that it names, and `exists`, which names none, of the caller.
-/// `AllocError` where the text finds no memory.
+/// Writes the latest accesses of a traced storage, as many as a command made, as messages between a node and the
+/// storage. Each is of the node that it names. `exists` names none, and is of the caller. `AllocError` if the text
+/// finds no memory.
 pub fn draw_accesses<S>(
     traced: &Traced<S>,
     made: u64,
@@ -77,7 +77,7 @@ fn draw_answered(node: u64, entry: &TracedAccess, text: &mut String) -> Result<(
     writeln!(text, "    storage-->>node {node}: {entry}")
 }
 
-/// The node that an access names, or else the caller.
+/// Returns the node that an access names, or else the caller.
 fn node_of(entry: &TracedAccess, caller: u64) -> u64
     ensures { result ≡ caller_of caller entry.now }
 {
@@ -97,8 +97,8 @@ fn node_of(entry: &TracedAccess, caller: u64) -> u64
     }
 }
 
-/// Writes a note with this text over the storage. What would end the note or be taken for a mark of
-/// Mermaid's is written as an entity, and a line's end as `<br/>`. `AllocError` where there is no memory.
+/// Writes a note with this text over the storage. What would end the note, or be taken for a mark of Mermaid's, is
+/// written as an entity, and a line's end as `<br/>`. `AllocError` if there is no memory.
 pub fn draw_note(text: &str, diagram: &mut String) -> Result<(), AllocError>
     ensures { OnOk result (string_bytes diagram.new ≡ string_bytes diagram.old ++ note_line text.now) }
 {
@@ -107,7 +107,7 @@ pub fn draw_note(text: &str, diagram: &mut String) -> Result<(), AllocError>
     diagram.push_str("\n")
 }
 
-/// Writes what a note begins with.
+/// Writes the beginning of a note.
 #[tactic(auto, unfolding(crate::specs::Diagrams::note_head))]
 fn draw_head(diagram: &mut String) -> Result<(), AllocError>
     ensures { OnOk result (string_bytes diagram.new ≡ string_bytes diagram.old ++ note_head) }
@@ -115,8 +115,8 @@ fn draw_head(diagram: &mut String) -> Result<(), AllocError>
     diagram.push_str("    Note over storage: ")
 }
 
-/// Writes a text with what has a meaning in Mermaid as entities, and a line's end as `<br/>`. `AllocError` where there is no
-/// memory; a front of it may then be written.
+/// Writes a text with what has a meaning in Mermaid as entities, and a line's end as `<br/>`. `AllocError` if there is
+/// no memory; a prefix may then be written.
 pub fn draw_text(text: &str, diagram: &mut String) -> Result<(), AllocError>
     ensures { OnOk result (string_bytes diagram.new
         ≡ string_bytes diagram.old ++ flat_map escaped (chars text.now)) }

@@ -11,10 +11,10 @@ use iceoryx2_testing::traced::Traced;
 use negotiate_serve::reply::describe;
 use std::alloc::AllocError;
 
-/// Writes the accesses that a command made, which are the latest of the storage, as messages, and the reply as a
-/// note. An access that names no node is of this one.
+/// Writes the accesses that a command made, which are the latest of the storage, as messages, and the reply as a note.
+/// An access that names no node is of this one.
 ///
-/// `AllocError` where memory runs out. The text may then have a part of this.
+/// `AllocError` if memory runs out. The text may then have a part of this.
 pub fn draw_reply<S>(
     node: u64,
     slot: usize,
@@ -32,7 +32,7 @@ pub fn draw_reply<S>(
     draw_note(without_line_feed(&reply_text), text)
 }
 
-/// The text without one line feed at its end.
+/// Returns the text without one line feed at its end.
 fn without_line_feed(text: &str) -> &str
     ensures { result.now ≡ without_last 10 text.now }
 {

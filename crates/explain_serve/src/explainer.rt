@@ -21,8 +21,8 @@ use std::alloc::{AllocError, AllocFailed, Global};
 /// How many accesses are kept for a command's answer: as many as the longest word of a call has.
 const ROOM: usize = 264;
 
-/// A storage that keeps all accesses of a command, and none yet. Where there is no memory for them the storage comes
-/// back as it is in the error's `value`.
+/// Returns a storage that keeps all accesses of a command, and has kept none yet. If there is no memory for them, the
+/// error's `value` is the storage as it was.
 pub fn with_room<S>(alloc: Global, storage: S) -> Result<Traced<S>, AllocFailed<S>>
     ensures { MatchResult result (λ traced. traced ≡ fresh_trace storage) (λ refused. refused.value ≡ storage) }
 {
@@ -36,8 +36,8 @@ pub struct Explainer {
 }
 
 impl Explainer {
-    /// A session over an empty table, all of whose slots are free. `AllocError` where there is no memory for
-    /// the accesses that are kept.
+    /// Returns a session over an empty table, all of whose slots are free. `AllocError` if there is no memory for the
+    /// accesses that are kept.
     pub fn new(alloc: Global, format: Format) -> Result<Explainer, AllocError>
         ensures { IfOk result (λ made. (made.format ≡ format)
             × (own_state made.session ≡ first_state.session)
@@ -52,7 +52,7 @@ impl Explainer {
         }
     }
 
-    /// Closes the factories that are still open, and gives the table back. Nothing is left in it.
+    /// Closes the factories that are still open, and returns the table. Nothing is left in it.
     pub fn finish(self) -> Table
         requires { ShowsSomeState (own_state self.session) }
         ensures { HasNothing result }
@@ -88,7 +88,7 @@ impl Answerer for Explainer {
     }
 }
 
-/// The node that a command names. A close and a list name none, and each of their accesses names its own.
+/// Returns the node that a command names. A close and a list name none, and each of their accesses names its own.
 fn node_of(command: &Command) -> u64
     ensures { result ≡ node_named command.now }
 {

@@ -8,14 +8,14 @@ use crate::diagram::HEAD;
 /// What is printed of a command.
 #[derive(Clone, Copy)]
 pub enum Format {
-    /// The reply, behind it the accesses, and for a refusal why it comes and what can be done.
+    /// The reply, then the accesses, and for a refusal its cause and what can be done.
     Lines,
     /// A Mermaid sequence diagram: the accesses as messages, and the reply as a note.
     Diagram,
 }
 
 impl Format {
-    /// The format that an argument asks for: `--diagram`, or none.
+    /// Returns the format that an argument asks for: `--diagram`, or none.
     pub fn named(argument: &str) -> Option<Format>
         ensures { result ≡ format_named argument.now }
     {
@@ -25,7 +25,7 @@ impl Format {
         }
     }
 
-    /// What is printed before the first line is read.
+    /// Returns what is printed before the first line is read.
     pub fn head(self) -> &'static str
         ensures { result.now ≡ head_of self }
     {

@@ -17,10 +17,10 @@ use negotiate_lines::line::{self, Line};
 use negotiate_serve::reply::describe;
 use std::alloc::AllocError;
 
-/// Writes the reply to a line's command, the accesses that it made, which are the latest of the storage, and
-/// of a refusal when it comes, what can be done, what was required and what is offered.
+/// Writes the reply to a line's command, the accesses that it made, which are the latest of the storage, and for a
+/// refusal when it comes, what can be done, what was required and what is offered.
 ///
-/// `AllocError` where memory runs out. The text may then have a part of this.
+/// `AllocError` if memory runs out. The text may then have a part of this.
 pub fn describe_lines<S: WorldStorage>(
     line: &[u8],
     slot: usize,
@@ -41,7 +41,7 @@ pub fn describe_lines<S: WorldStorage>(
     }
 }
 
-/// The refusal of a reply.
+/// Returns the refusal of a reply.
 fn refusal_of(reply: &Reply) -> Option<Refusal>
     ensures { result ≡ refusal_of reply.now }
 {
@@ -69,7 +69,7 @@ fn describe_refusal<S: WorldStorage>(
     }
 }
 
-/// The call of a line.
+/// Returns the call of a line.
 fn call_of(line: Line<'_>) -> Option<Call>
     ensures { result ≡ call_of line.entry }
 {
@@ -79,7 +79,7 @@ fn call_of(line: Line<'_>) -> Option<Call>
     }
 }
 
-/// Writes what a refused call required, and what is offered by the service that it found.
+/// Writes what a refused call required, and what the service that it found offers.
 fn describe_found<S: WorldStorage>(
     call: &Call,
     refusal: Refusal,

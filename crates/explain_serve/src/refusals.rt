@@ -35,7 +35,7 @@ enum Pattern {
 }
 
 /// The two texts of each reason, by their names. First the settings: when it comes, what can be done after an open, and
-/// what after an open or create. Then the other reasons: of what part of a call and what pattern, and the texts; the
+/// what after an open or create. Then the other reasons: for what part of a call and what pattern, and the texts; the
 /// first that fits counts.
 macro_rules! each_row {
     ($make:ident $reason:expr, $part:expr, $pattern:expr) => {
@@ -183,13 +183,13 @@ macro_rules! row {
 /// What docs/REFUSALS.md has of an error.
 #[derive(Clone, Copy)]
 pub struct RefusalRow {
-    /// At which step of the call it comes, and of what.
+    /// At which step of the call it comes, and from what.
     pub comes_when: &'static str,
     pub what_can_be_done: &'static str,
 }
 
 impl RefusalRow {
-    /// The row of a refusal.
+    /// Returns the row of a refusal.
     pub fn of(refusal: Refusal) -> RefusalRow
         ensures { texts_of result ≡ refusal_row refusal }
     {
@@ -197,14 +197,14 @@ impl RefusalRow {
     }
 }
 
-/// The row of a reason, where this part of a call for this pattern refuses.
+/// Returns the row of a reason, if this part of a call for this pattern refuses.
 fn row_of(reason: Reason, part: Part, pattern: Pattern) -> RefusalRow
     ensures { texts_of result ≡ row_of reason part pattern }
 {
     each_row!(row_of reason, part, pattern)
 }
 
-/// The part of the call that refuses.
+/// Returns the part of the call that refuses.
 fn part_of(refusal: Refusal) -> Part
     ensures { result ≡ part_of refusal }
 {
@@ -233,7 +233,7 @@ fn part_of(refusal: Refusal) -> Part
     }
 }
 
-/// The pattern of the call.
+/// Returns the pattern of the call.
 fn pattern_of(refusal: Refusal) -> Pattern
     ensures { result ≡ pattern_of refusal }
 {
@@ -249,8 +249,7 @@ fn pattern_of(refusal: Refusal) -> Pattern
     }
 }
 
-/// Writes when a refusal comes and what can be done, a line each. `AllocError` where the text finds no
-/// memory.
+/// Writes when a refusal comes and what can be done, a line each. `AllocError` if the text finds no memory.
 pub fn describe_row(refusal: Refusal, text: &mut String) -> Result<(), AllocError>
     ensures { OnOk result (string_bytes text.new ≡ string_bytes text.old ++ row_lines (refusal_row refusal)) }
 {

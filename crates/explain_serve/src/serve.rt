@@ -1,4 +1,4 @@
-//! The whole program: an input in, its explanation out.
+//! The whole program: an input, and its explanation.
 
 ghost use Rattle.std.specs.Prelude.{◌≡◌, ℕ, List, Some};
 ghost use Rattle.negotiate_serve.specs.Served.{ServesBy};
@@ -12,12 +12,12 @@ use negotiate_serve::serve::{serve_by, write_failure};
 use std::alloc::Global;
 use std::io::{Read, Write};
 
-/// Answers each line of an input as `negotiate` does, over a table of its own, and explains each reply in this
-/// format. It writes nothing else, each answer before the next line is read, and returns how it ended. Whatever
-/// that is, the factories that are still open are closed.
+/// Answers each line of an input as `negotiate` does, over a table of its own, and explains each reply in this format.
+/// It writes nothing else, each answer before it reads the next line, and returns how it ended. Then it closes the
+/// factories that are still open.
 ///
-/// `ServeError` where the reader or the writer answers an error, where a count is at its end (`ServeError` tells
-/// which), and where memory runs out outside a call, which is written.
+/// `ServeError` if the reader or the writer answers an error, if a count is at its end (`ServeError` tells which), or
+/// if memory runs out outside a call, which is written.
 pub fn serve<R: Read + Drop, W: Write>(
     alloc: Global,
     input: R,

@@ -17,8 +17,8 @@ ghost use Rattle.explain_serve.specs.Settings.{required_lines, setting_line, val
 ghost use Rattle.iceoryx2_event_builder.specs.Event.{deadline_value};
 ghost use Rattle.iceoryx2_errors.specs.Reasons.{reason_of};
 
-/// What a setter requires, beside what is there, by a table of each pattern: of a setting its kind, its
-/// setter, its name and the reason. The setters of types are no settings.
+/// What a setter requires, beside what is there, by a table of each pattern: for each setting its kind, its setter, its
+/// name and the reason. The setters of types are no settings.
 macro_rules! comparison_of {
     ($setter:expr, $existing:ident, $setters:ident;
      settings { $($kind:ident $variant:ident $name:ident $reason:ident;)* }
@@ -35,7 +35,7 @@ macro_rules! comparison_of {
     };
 }
 
-/// The value of a setting that is offered. Of a deadline the length counts.
+/// The value of a setting that is offered. The length of a deadline counts.
 macro_rules! offered {
     (Time $deadline:expr) => {
         Value::Time(length_of($deadline))
@@ -62,10 +62,9 @@ use iceoryx2_errors::refusal::{Reason, Refusal};
 use std::alloc::AllocError;
 use std::marker::Model;
 
-/// Writes what a refused call required, and what the service of this description offers: of the
-/// settings or attributes that the refusal names, and where it names types, of each part of the messages.
-/// Nothing where it names none of these, and where the service is of another pattern. `AllocError` where
-/// the text or the name of a type finds no memory.
+/// Writes what a refused call required, and what the service of this description offers: the settings or attributes
+/// that the refusal names, or each part of the messages if it names types. It writes nothing if it names none of these,
+/// or if the service has another pattern. `AllocError` if the text or the name of a type finds no memory.
 pub fn describe_offer(
     call: &Call,
     refusal: Refusal,
@@ -106,8 +105,8 @@ fn describe_settings(
     }
 }
 
-/// The messages whose parts are shown are those that a session's builder asks for after the same setters, whoever
-/// calls and whatever is configured.
+/// States that the messages whose parts are shown are those that a session's builder asks for after the same setters,
+/// for any caller and any configuration.
 pub fn messages_of_calls()
     ensures samples { (node : ℕ) (name : List ℕ) (defaults : SampleDefaults) (setters : List PublishSubscribeSetter)
         → named_message (with_settings sample.with_setting (sample.fresh_builder node name defaults) setters)
@@ -117,8 +116,8 @@ pub fn messages_of_calls()
         ≡ asked_messages setters }
 {}
 
-/// A setter beside what there is: the name of the setting, why an open is refused that doesn't find what is set, what
-/// is set, and what is there.
+/// A setter beside what there is: the name of the setting, why an open is refused that doesn't find this value, the
+/// value that it sets, and the one that is there.
 #[derive(Drop)]
 pub(crate) struct Comparison {
     name: &'static str,
@@ -133,7 +132,7 @@ impl Model for Comparison {
     ghost view = { λ c. record { name = c.name.now; reason = c.reason; required = c.required; offered = c.offered } };
 }
 
-/// The length of a deadline, without the time of its creation.
+/// Returns the length of a deadline, without the time of its creation.
 fn length_of(deadline: Option<Deadline>) -> Option<Duration>
     ensures { result ≡ deadline_value deadline }
 {
@@ -150,13 +149,13 @@ pub(crate) trait Compare {
 
     ghost compared: { Self → Self.Existing → Option Compared };
 
-    /// What is required by this setter, beside what is there. `None` where it sets no setting but a type.
+    /// Returns what this setter requires, beside what is there. `None` if it sets only a type.
     fn compare(&self, existing: &Self::Existing) -> Option<Comparison>
         ensures { result ≡ compared self.now existing.now };
 }
 
-/// Writes of each setting that the reason names what is required and what is offered; of one
-/// that is set more than once the last. `AllocError` where the text finds no memory.
+/// Writes for each setting that the reason names what is required and what is offered. If a setting is set more than
+/// once, the last counts. `AllocError` if the text finds no memory.
 pub(crate) fn describe_required<S: Compare>(
     reason: Reason,
     setters: &[S],
@@ -174,8 +173,8 @@ pub(crate) fn describe_required<S: Compare>(
     Ok(())
 }
 
-/// Writes what is required by a setter and what is offered, where it is of a setting that the reason names and that
-/// no later setter sets again.
+/// Writes what a setter requires and what is offered, if the reason names its setting and no later setter sets it
+/// again.
 fn describe_setter<S: Compare>(
     reason: Reason,
     setter: &S,
@@ -195,7 +194,7 @@ fn describe_setter<S: Compare>(
     Ok(())
 }
 
-/// Whether the reason is that of the setting, and no later setter sets it again.
+/// Returns whether the reason is that of the setting, and no later setter sets it again.
 fn is_required<S: Compare>(
     reason: Reason,
     comparison: &Comparison,
@@ -207,7 +206,7 @@ fn is_required<S: Compare>(
     comparison.reason == reason && !is_set_again(comparison.name, later, existing)
 }
 
-/// Whether a later setter sets the setting with this name.
+/// Returns whether a later setter sets the setting with this name.
 fn is_set_again<S: Compare>(name: &str, later: &[S], existing: &S::Existing) -> bool
     ensures { result ≡ is_set_again S.compared existing.now name.now later.now }
 {
@@ -219,7 +218,7 @@ fn is_set_again<S: Compare>(name: &str, later: &[S], existing: &S::Existing) -> 
     false
 }
 
-/// Whether it is of the setting with this name.
+/// Returns whether it compares the setting with this name.
 fn is_of_name(name: &str, comparison: Option<Comparison>) -> bool
     ensures { result ≡ is_of_name name.now comparison }
 {
@@ -229,7 +228,7 @@ fn is_of_name(name: &str, comparison: Option<Comparison>) -> bool
     }
 }
 
-/// Writes what is required of a setting and what is offered.
+/// Writes what is required for a setting and what is offered.
 fn describe_values(comparison: &Comparison, text: &mut String) -> Result<(), AllocError>
     ensures { OnOk result (string_bytes text.new ≡ string_bytes text.old ++ value_line comparison.now) }
 {

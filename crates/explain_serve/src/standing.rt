@@ -9,8 +9,8 @@ use iceoryx2_description::description::{MessagingPattern, StaticConfig};
 use iceoryx2_world::listing::{Entry, ListedRow};
 use std::alloc::{AllocError, Global};
 
-/// The description of the service of the call's name and pattern among those that are listed, or none
-/// where none is published. `AllocError` where there was no memory for it.
+/// Returns the description of the service of the call's name and pattern among the listed ones, or `None` if none is
+/// published. `AllocError` if there was no memory for it.
 pub fn service_of(
     alloc: Global,
     entries: &[Entry],
@@ -27,7 +27,7 @@ pub fn service_of(
     Ok(None)
 }
 
-/// The description that is published here, where it is of the call's name and pattern.
+/// Returns the description that is published here, if it has the call's name and pattern.
 fn service_at(alloc: Global, entry: &Entry, call: &Call) -> Result<Option<StaticConfig>, AllocError>
     ensures { IfOk result (IsFoundAt call.entry.now entry.now) }
 {
@@ -41,7 +41,7 @@ fn service_at(alloc: Global, entry: &Entry, call: &Call) -> Result<Option<Static
     }
 }
 
-/// The description, where it is of the call's name and pattern.
+/// Returns the description, if it has the call's name and pattern.
 fn kept_where_asked(description: StaticConfig, call: &Call) -> Option<StaticConfig>
     ensures { result ≡ (if is_asked_for call.entry.now description then Some description else None) }
 {
@@ -53,7 +53,7 @@ fn kept_where_asked(description: StaticConfig, call: &Call) -> Option<StaticConf
     }
 }
 
-/// Whether a pattern is the one of these settings.
+/// Returns whether a pattern is the one of these settings.
 fn is_of_pattern(settings: &Settings, pattern: &MessagingPattern) -> bool
     ensures { result ≡ is_of_pattern settings.now pattern.now }
 {

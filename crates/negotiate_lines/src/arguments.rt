@@ -1,4 +1,4 @@
-//! What a call has beside its place and its name.
+//! The settings, requirements and clock of a call, apart from its place and name.
 
 ghost use Rattle.std.specs.Prelude.{◌≡◌};
 ghost use Rattle.negotiate_lines.specs.Terms.{terms_of};
@@ -26,7 +26,7 @@ use std::alloc::Global;
 use std::borrow::CowStr;
 use std::marker::Model;
 
-/// The settings of a call, what it requires, and what the clock gives it.
+/// The settings of a call, what it requires, and what its clock answers.
 #[derive(Drop)]
 pub struct CallArguments<S> {
     settings: Vec<S>,
@@ -47,7 +47,7 @@ impl<S> Model for CallArguments<S> {
 }
 
 impl<S: Drop> CallArguments<S> {
-    /// No settings, no requirements, and the time zero.
+    /// Returns no settings, no requirements, and the time zero.
     pub(crate) fn new(alloc: Global) -> CallArguments<S>
         ensures { result ≡ no_arguments }
     {
@@ -58,7 +58,7 @@ impl<S: Drop> CallArguments<S> {
         }
     }
 
-    /// Its settings in order, what it requires, and what the clock gives it.
+    /// Returns the settings in order, the requirements, and what the clock answers.
     pub fn into_parts(self) -> (Vec<S>, AttributeVerifier, Result<Time, ClockFault>)
         ensures settings { result.0.items ≡ self.settings }
         ensures requirements { result.1 ≡ self.requirements }
@@ -72,8 +72,8 @@ impl<S: Drop> CallArguments<S> {
         (settings, attributes, now)
     }
 
-    /// What they are after what a term means, or what is wrong where that can't be followed: a pair or a key isn't
-    /// taken where its length is out of range, and where it is one past 64.
+    /// Returns the arguments after what a term means, or what is wrong if that can't be followed: a pair or a key isn't
+    /// taken if its length is out of range, or if it is one past 64.
     fn judge<'a>(
         &mut self,
         alloc: Global,
@@ -97,7 +97,7 @@ impl<S: Drop> CallArguments<S> {
         }
     }
 
-    /// The same of a pair, of which these are the leaves.
+    /// Does the same for a pair with these leaves.
     fn judge_pair<'a>(
         &mut self,
         alloc: Global,
@@ -114,7 +114,7 @@ impl<S: Drop> CallArguments<S> {
         pair_answer(answer, key, value)
     }
 
-    /// The same of a key that is required, of which this is the leaf.
+    /// Does the same for a required key with this leaf.
     fn judge_key<'a>(
         &mut self,
         alloc: Global,
@@ -130,7 +130,7 @@ impl<S: Drop> CallArguments<S> {
     }
 }
 
-/// What is told where a pair of these leaves is put among others.
+/// Returns what is told if a pair of these leaves is added to others.
 fn pair_answer<'a>(
     answer: Result<(), AttributeError>,
     key: &'a str,
@@ -147,7 +147,7 @@ fn pair_answer<'a>(
     }
 }
 
-/// What is told where a key of this leaf is put among others.
+/// Returns what is told if a key of this leaf is added to others.
 fn key_answer<'a>(answer: Result<(), AttributeError>, key: &'a str) -> Result<(), LineFailure<'a>>
     ensures { IsKeyAnswer answer key.now result }
 {
@@ -159,7 +159,7 @@ fn key_answer<'a>(answer: Result<(), AttributeError>, key: &'a str) -> Result<()
     }
 }
 
-/// The text of a leaf, or that it is broken.
+/// Returns the text of a leaf, or that it is broken.
 pub(crate) fn judge_leaf<'a>(
     alloc: Global,
     form: Form,
@@ -175,7 +175,7 @@ pub(crate) fn judge_leaf<'a>(
     }
 }
 
-/// Reads the terms of a text, one by one and in order, up to the first that is wrong. No term is kept: memory is taken
+/// Reads the terms of a text, one by one and in order, up to the first that is wrong. It keeps no term: it takes memory
 /// for the settings, the pairs and the keys alone.
 pub(crate) fn judge_arguments<'a, V: HasVocabulary>(
     alloc: Global,
@@ -196,7 +196,7 @@ pub(crate) fn judge_arguments<'a, V: HasVocabulary>(
     Ok(arguments)
 }
 
-/// What the arguments are after what a term means, or what is wrong with it.
+/// Returns the arguments after what a term means, or what is wrong with it.
 fn judge_term<'a, V: HasVocabulary>(
     alloc: Global,
     form: Form,

@@ -1,4 +1,4 @@
-//! What one term behind a service's name means.
+//! The meaning of one term after a service's name.
 
 ghost use Rattle.negotiate_lines.specs.CallTerms.{IsRead, IsValueOf, IsInstructionOf};
 
@@ -14,7 +14,7 @@ use std::alloc::Global;
 pub(crate) enum CallTerm<'a, S> {
     /// A setter of the builder, with its value.
     Setting(S),
-    /// What the clock gives.
+    /// What the clock answers.
     Now(Result<Time, ClockFault>),
     /// The leaves of a key and a value.
     Attribute(&'a str, &'a str),
@@ -22,9 +22,8 @@ pub(crate) enum CallTerm<'a, S> {
     RequiredKey(&'a str),
 }
 
-/// Reads a term of a call: a name and a value around its first `=`. It is malformed where there is no
-/// such name, where its value has another form or is out of range, and where the name doesn't go with
-/// the call.
+/// Reads a term of a call: a name and a value around its first `=`. The term is malformed if there is no such name, if
+/// its value has another form or is out of range, or if the name doesn't go with the call.
 pub(crate) fn call_term<'a, V: HasVocabulary>(
     alloc: Global,
     form: Form,
@@ -39,7 +38,7 @@ pub(crate) fn call_term<'a, V: HasVocabulary>(
     }
 }
 
-/// What a value means behind a name.
+/// Returns what a value means after a name.
 fn value_of<'a, V: HasVocabulary>(
     alloc: Global,
     form: Form,

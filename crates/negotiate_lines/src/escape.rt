@@ -12,8 +12,8 @@ use std::alloc::{AllocError, Global};
 const MOST_SHOWN: u64 = 64;
 
 /// Writes a text for a line: a tab, a line's end, a carriage return and a backslash as `\t`, `\n`, `\r` and `\\`, other
-/// controls of ASCII as `\x1b`, those of Latin-1 as `\u{85}`, and all else as it is. `AllocError` where there is no
-/// memory; a front of it may then be written.
+/// controls of ASCII as `\x1b`, those of Latin-1 as `\u{85}`, and anything else as it is. `AllocError` if there is no
+/// memory; a prefix may then be written.
 #[tactic(auto, unfolding(crate::specs::Escapes::escaped))]
 pub fn escape(source: &str, text: &mut String) -> Result<(), AllocError>
     ensures { OnOk result (string_bytes text.new ≡ string_bytes text.old ++ escaped source.now) }
@@ -21,7 +21,7 @@ pub fn escape(source: &str, text: &mut String) -> Result<(), AllocError>
     escape_characters(source, text)
 }
 
-/// A text without control characters, as `escape` writes it. `AllocError` where there is no memory.
+/// Returns a text without control characters, as `escape` writes it. `AllocError` if there is no memory.
 pub fn escaped_text(alloc: Global, source: &str) -> Result<String, AllocError>
     ensures { IfOk result (λ text. string_bytes text ≡ escaped source.now) }
 {
@@ -30,8 +30,8 @@ pub fn escaped_text(alloc: Global, source: &str) -> Result<String, AllocError>
     Ok(text)
 }
 
-/// Writes a word as `escape` does, and of one with more than 64 characters the first 64, and `..`. `AllocError` where
-/// there is no memory; a front of it may then be written.
+/// Writes a word as `escape` does. If it has more than 64 characters, it writes the first 64, and `..`. `AllocError` if
+/// there is no memory; a prefix may then be written.
 #[tactic(auto, unfolding(crate::specs::Escapes::shown))]
 pub fn escape_word(word: &str, text: &mut String) -> Result<(), AllocError>
     ensures { OnOk result (string_bytes text.new ≡ string_bytes text.old ++ shown word.now) }

@@ -26,12 +26,12 @@ pub enum Form {
     Escaped,
 }
 
-/// The bytes of ASCII that stand escaped: controls, the blank, and what parts words, terms and values.
+/// The bytes of ASCII that are escaped in a leaf: controls, the blank, and what parts words, terms and values.
 pub const LEAF_ESCAPES: AsciiSet = ascii_set!(
     CONTROLS.add(b' ').add(b'%').add(b',').add(b':').add(b'=')
 );
 
-/// Appends bytes as a leaf of an escaped line. `AllocError` where the text finds no memory; it may have a part of them
+/// Appends bytes as a leaf of an escaped line. `AllocError` if the text finds no memory; it may have a part of them
 /// then.
 pub fn escape_leaf(bytes: &[u8], text: &mut String) -> Result<(), AllocError>
     ensures { OnOk result (string_bytes text.new ≡ string_bytes text.old ++ leaf_of bytes.now) }
@@ -42,7 +42,7 @@ pub fn escape_leaf(bytes: &[u8], text: &mut String) -> Result<(), AllocError>
     percent_encode(bytes, LEAF_ESCAPES).append_to(text)
 }
 
-/// Whether each `%` stands before two hexadecimal digits.
+/// Returns whether two hexadecimal digits follow each `%`.
 fn is_whole(leaf: &[u8]) -> bool
     ensures { result ≡ are_whole leaf.now }
 {
@@ -56,7 +56,7 @@ fn is_whole(leaf: &[u8]) -> bool
     digits == 0
 }
 
-/// How many digits are awaited behind a byte, where so many are awaited before it.
+/// Returns how many digits are awaited after a byte, if this many are awaited before it.
 fn digits_after(digits: u8, byte: u8) -> Option<u8>
     ensures { result ≡ digits_after digits byte }
 {
@@ -66,16 +66,16 @@ fn digits_after(digits: u8, byte: u8) -> Option<u8>
     if is_hex(byte) { Some(digits - 1) } else { None }
 }
 
-/// Whether a byte is a hexadecimal digit.
+/// Returns whether a byte is a hexadecimal digit.
 fn is_hex(byte: u8) -> bool
     ensures { result ≡ is_digit byte 16 }
 {
     char::from(byte).is_digit(16)
 }
 
-/// The text that a leaf stands for.
+/// Returns the text of a leaf.
 ///
-/// `Malformed` where an escape in it is broken, or it isn't UTF-8. `OutOfMemory` where there is no memory for it: a leaf
+/// `Malformed` if an escape in it is broken, or it isn't UTF-8. `OutOfMemory` if there is no memory for it: a leaf
 /// without an escape needs none.
 pub(crate) fn text_of_leaf<'a>(
     alloc: Global,
@@ -90,9 +90,9 @@ pub(crate) fn text_of_leaf<'a>(
     }
 }
 
-/// The bytes that a leaf of an escaped line stands for.
+/// Returns the bytes of a leaf of an escaped line.
 ///
-/// `Malformed` where an escape in it is broken, `OutOfMemory` where there is no memory for them.
+/// `Malformed` if an escape in it is broken, `OutOfMemory` if there is no memory for them.
 pub fn bytes_of_leaf(alloc: Global, leaf: &str) -> Result<Vec<u8>, TermError>
     ensures { Reads (λ bytes. bytes_of leaf.now ≡ Some bytes) (result_map_both (λ bytes. bytes.items) (λ e. e) result) }
 {
@@ -109,7 +109,7 @@ pub fn bytes_of_leaf(alloc: Global, leaf: &str) -> Result<Vec<u8>, TermError>
     }
 }
 
-/// The text that a leaf of an escaped line stands for.
+/// Returns the text of a leaf of an escaped line.
 fn unescape<'a>(alloc: Global, leaf: &'a str) -> Result<CowStr<'a>, TermError>
     ensures { Reads (IsLeaf form.Escaped leaf.now) (result_map_both (λ text. cow_str_bytes text) (λ e. e) result) }
 {
@@ -126,8 +126,8 @@ fn unescape<'a>(alloc: Global, leaf: &'a str) -> Result<CowStr<'a>, TermError>
     }
 }
 
-/// What a text is written as in an escaped line stands for this text. It isn't empty, and parts no words, terms or
-/// values. A leaf stands for one text, and one with a broken escape for none.
+/// States that the leaf as which a text is written has this text. It isn't empty, and parts no words, terms or values.
+/// A leaf has one text, and a leaf with a broken escape has none.
 pub fn laws_of_leaves()
     ensures back { (text : List ℕ) → IsUtf8 text → IsLeaf form.Escaped (leaf_of text) text }
     ensures plain { (bytes : List ℕ) → All IsPlain (leaf_of bytes) }

@@ -32,7 +32,7 @@ pub enum Line<'a> {
     NotACommand(LineError<'a>),
 }
 
-/// The line without its end: one `\n`, and one `\r` before that.
+/// Returns the line without its end: one `\n`, and one `\r` before that.
 pub fn without_end(line: &[u8]) -> &[u8]
     ensures { result.now ≡ without_end_of line.now }
 {
@@ -46,17 +46,18 @@ pub fn without_end(line: &[u8]) -> &[u8]
     }
 }
 
-/// Reads a line, without its end. Its terms are separated by one or more spaces, and its leaves are as they are.
+/// Reads a line, without its end. One or more spaces part its terms, and its leaves are as they are.
 ///
-/// Its terms are read one by one, and none is kept. Memory is taken for a service's name and for
-/// what the terms behind it mean. `AllocError` where there is none.
+/// It reads its terms one by one, and keeps none. It takes memory for a service's name and for what the terms after the
+/// name mean. `AllocError` if there is none.
 pub fn parse<'a>(alloc: Global, line: &'a [u8]) -> Result<Line<'a>, AllocError>
     ensures { IfOk result (IsLine line.now) }
 {
     parse_in(alloc, Form::Plain, line)
 }
 
-/// The same of a line whose leaves are written so. `AllocError` also where there is no memory for a leaf with an escape.
+/// Does the same for a line whose leaves are written so. `AllocError` also if there is no memory for a leaf with an
+/// escape.
 pub fn parse_in<'a>(alloc: Global, form: Form, line: &'a [u8]) -> Result<Line<'a>, AllocError>
     ensures { IfOk result (IsLineIn form line.now) }
 {
@@ -66,7 +67,7 @@ pub fn parse_in<'a>(alloc: Global, form: Form, line: &'a [u8]) -> Result<Line<'a
     }
 }
 
-/// What a text is.
+/// Returns what a text is.
 fn parse_text<'a>(alloc: Global, form: Form, text: &'a str) -> Result<Line<'a>, AllocError>
     ensures { IfOk result (AreLine form (terms_of text.now)) }
 {
@@ -80,7 +81,7 @@ fn parse_text<'a>(alloc: Global, form: Form, text: &'a str) -> Result<Line<'a>, 
     }
 }
 
-/// The command that a term and those behind it are, or what is wrong.
+/// Returns the command that a term and those after it are, or what is wrong.
 fn judge<'a>(
     alloc: Global,
     form: Form,
@@ -106,7 +107,7 @@ fn judge<'a>(
     }
 }
 
-/// What the term `list` means before others.
+/// Returns what the term `list` means before others.
 fn judge_list<'a>(form: Form, others: &'a str) -> Result<Command, LineFailure<'a>>
     ensures { Judges (IsCommandOf form (codes "list" ∷ terms_of others.now))
         (WrongTerms form (codes "list" ∷ terms_of others.now)) result }
@@ -117,7 +118,7 @@ fn judge_list<'a>(form: Form, others: &'a str) -> Result<Command, LineFailure<'a
     }
 }
 
-/// What the term `close` means before others.
+/// Returns what the term `close` means before others.
 fn judge_close<'a>(form: Form, others: &'a str) -> Result<Command, LineFailure<'a>>
     ensures { Judges (IsCommandOf form (codes "close" ∷ terms_of others.now))
         (WrongTerms form (codes "close" ∷ terms_of others.now)) result }
@@ -129,7 +130,7 @@ fn judge_close<'a>(form: Form, others: &'a str) -> Result<Command, LineFailure<'
     }
 }
 
-/// The slot by which a text begins, and the text behind it.
+/// Returns the slot with which a text begins, and the text after it.
 fn slot_in<'a>(text: &'a str) -> Result<(usize, &'a str), LineFailure<'a>>
     ensures { JudgesFirst (IsNumber slot_count) WrongSlot (terms_of text.now) result }
 {
@@ -147,7 +148,7 @@ fn slot_in<'a>(text: &'a str) -> Result<(usize, &'a str), LineFailure<'a>>
     }
 }
 
-/// The call by which a text begins, and the text behind it.
+/// Returns the call with which a text begins, and the text after it.
 fn how_in<'a>(text: &'a str) -> Result<(How, &'a str), LineFailure<'a>>
     ensures { JudgesFirst NamesCall WrongHow (terms_of text.now) result }
 {
@@ -171,7 +172,7 @@ fn how_of(term: &str) -> Result<How, TermError>
     }
 }
 
-/// The node by which a text begins, and the text behind it.
+/// Returns the node with which a text begins, and the text after it.
 fn node_in<'a>(text: &'a str) -> Result<(u64, &'a str), LineFailure<'a>>
     ensures { JudgesFirst IsNatural WrongNode (terms_of text.now) result }
 {
@@ -184,7 +185,7 @@ fn node_in<'a>(text: &'a str) -> Result<(u64, &'a str), LineFailure<'a>>
     }
 }
 
-/// What a pattern's term means before others.
+/// Returns what a pattern's term means before others.
 fn judge_call<'a, V: HasVocabulary>(
     alloc: Global,
     form: Form,
@@ -217,7 +218,7 @@ fn judge_call<'a, V: HasVocabulary>(
     })
 }
 
-/// Which of the terms that every pattern has go with such a call.
+/// Returns which of the terms that every pattern has go with such a call.
 pub(crate) fn admitted<V: HasVocabulary>(how: How) -> Admitted
     ensures { result ≡ admitted_of V.vocabulary.has_clock how }
 {
@@ -248,7 +249,7 @@ struct NamedCall<S> {
 }
 
 impl<S: Drop> NamedCall<S> {
-    /// The call of a session, whose settings are made of its setters.
+    /// Returns the call of a session, with settings made of its setters.
     fn into_command<F: FnOnce(Vec<S>) -> Settings>(self, settings: F) -> Command
         requires { F.IsAlwaysCallable settings }
         ensures { (call : Call) × (setters : _) × (result ≡ command.Call call)

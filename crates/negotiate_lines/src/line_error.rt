@@ -10,11 +10,11 @@ pub enum LineError<'a> {
     NotUtf8,
     /// No command begins with this term.
     NoSuchCommand(&'a str),
-    /// A term behind `list`.
+    /// A term after `list`.
     BehindList(&'a str),
-    /// A term behind the slot of a close.
+    /// A term after the slot of a close.
     BehindSlot(&'a str),
-    /// A pattern with nothing behind it.
+    /// A pattern with nothing after it.
     NoCall,
     /// No call has this name.
     NoSuchCall(&'a str),
@@ -30,13 +30,13 @@ pub enum LineError<'a> {
     SlotTooGreat(&'a str),
     /// A call with no name.
     NoName,
-    /// A leaf in which an escape is broken, or of which the bytes aren't UTF-8.
+    /// A leaf with a broken escape, or whose bytes aren't UTF-8.
     BrokenLeaf(&'a str),
     /// A name whose length is out of range.
     NameLength(&'a str),
-    /// A term behind the name without `=`.
+    /// A term after the name without `=`.
     NoEqualsSign(&'a str),
-    /// No setting of the pattern has this name. These could stand there.
+    /// No setting of the pattern has this name. These are allowed there.
     NoSuchSetting {
         /// The name.
         name: &'a str,
@@ -63,9 +63,9 @@ pub enum LineError<'a> {
     KeyLength(&'a str),
     /// A value of a key that is too long.
     ValueLength(&'a str),
-    /// A pair, where there are as many different ones as there may be.
+    /// A pair, if there are already as many different ones as there may be.
     TooManyPairs(&'a str, &'a str),
-    /// A required key, where there are as many different ones as there may be.
+    /// A required key, if there are already as many different ones as there may be.
     TooManyKeys(&'a str),
 }
 

@@ -1,4 +1,4 @@
-//! Which word may have been meant.
+//! Finds the word that may have been meant.
 
 ghost use Rattle.std.specs.Prelude.{◌≡◌, ◌∷◌, ◌++◌, [], ℕ, List, IfOk, cond};
 ghost use Rattle.negotiate_lines.specs.Nearest.{Suggests, are_near, distance, now_of};
@@ -6,7 +6,7 @@ ghost use Rattle.negotiate_lines.specs.Nearest.{Suggests, are_near, distance, no
 use std::alloc::{AllocError, Global};
 use strsim::levenshtein;
 
-/// Of the nearest words and one more the nearest. Of two that are as near the first.
+/// Returns the nearest of some words and one more. Of two that are equally near it returns the first.
 pub(crate) fn nearer(
     alloc: Global,
     term: &str,
@@ -30,7 +30,7 @@ pub(crate) fn nearer(
     }
 }
 
-/// The same where the word could stand there, and else the nearest of the words.
+/// Does the same if the word is allowed there. Otherwise it returns the nearest of the words.
 pub(crate) fn nearer_if(
     alloc: Global,
     term: &str,
@@ -47,8 +47,8 @@ pub(crate) fn nearer_if(
     Ok(nearest)
 }
 
-/// Whether few edits lead from a term to a word: at most 2, and fewer than half of the word's bytes. A term of more
-/// than 64 bytes is near to no word.
+/// Returns whether few edits lead from a term to a word: at most 2, and fewer than half of the word's bytes. A term of
+/// more than 64 bytes is near to no word.
 fn is_near(alloc: Global, term: &str, word: &str) -> Result<bool, AllocError>
     ensures { IfOk result (λ near. near ≡ are_near term.now word.now) }
 {

@@ -22,13 +22,13 @@ pub enum Question {
     Bytes { slot: usize },
     /// To let go of what a slot holds without a close.
     Abandon { slot: usize },
-    /// All that is there of services.
+    /// All entries of the listing.
     Entries,
     /// The nodes at the log.
     Nodes,
-    /// To give back what a dead node has, or each.
+    /// To release what a dead node has, or what each has.
     Clean { node: Option<u64> },
-    /// What that would give back.
+    /// What that would release.
     Rehearse { node: Option<u64> },
     /// The texts of a refusal, by its number.
     Refusal { number: u64 },
@@ -43,13 +43,13 @@ pub enum Request<'a> {
     Line(Line<'a>),
     /// It is a question.
     Question(Question),
-    /// It begins with this word of a question, behind which something else has to stand.
+    /// It begins with this word of a question, and something else has to follow the word.
     NotAQuestion(&'a str),
 }
 
 /// Reads a line of an escaped session, without its end.
 ///
-/// `AllocError` where there is no memory for what it means.
+/// `AllocError` if there is no memory for what it means.
 pub fn parse_request<'a>(alloc: Global, line: &'a [u8]) -> Result<Request<'a>, AllocError>
     ensures { IfOk result (IsRequest line.now) }
 {
@@ -63,7 +63,7 @@ pub fn parse_request<'a>(alloc: Global, line: &'a [u8]) -> Result<Request<'a>, A
     Ok(Request::Line(parse_in(alloc, Form::Escaped, line)?))
 }
 
-/// What is asked by a word of a question and the terms behind it.
+/// Returns what a word of a question and the terms after it ask.
 fn asked<'a>(alloc: Global, first: &'a str, others: &str) -> Result<Request<'a>, AllocError>
     requires { is_question_word first.now ≡ true }
     ensures { IfOk result (AsksIn (first.now ∷ terms_of others.now)) }
@@ -75,7 +75,7 @@ fn asked<'a>(alloc: Global, first: &'a str, others: &str) -> Result<Request<'a>,
     }
 }
 
-/// Whether a question begins with this word.
+/// Returns whether a question begins with this word.
 fn is_question_word(word: &str) -> bool
     ensures { result ≡ is_question_word word.now }
 {
@@ -93,7 +93,7 @@ fn is_question_word(word: &str) -> bool
     }
 }
 
-/// The question that a word and the terms behind it are.
+/// Returns the question that a word and the terms after it are.
 fn question_of(alloc: Global, first: &str, others: &str) -> Result<Question, TermError>
     ensures { Reads (IsQuestionOf (first.now ∷ terms_of others.now)) result }
 {
@@ -131,7 +131,7 @@ fn question_of(alloc: Global, first: &str, others: &str) -> Result<Question, Ter
     }
 }
 
-/// That a text has no term.
+/// Reads a text that has no term.
 fn nothing(text: &str) -> Result<(), TermError>
     ensures { Finds (λ none. terms_of text.now ≡ []) result }
 {
@@ -141,7 +141,7 @@ fn nothing(text: &str) -> Result<(), TermError>
     }
 }
 
-/// The only term of a text.
+/// Returns the only term of a text.
 fn only(text: &str) -> Result<&str, TermError>
     ensures { Finds (λ term. terms_of text.now ≡ term ∷ []) (result_map_both (λ term. term.now) (λ e. e) result) }
 {
@@ -154,14 +154,14 @@ fn only(text: &str) -> Result<&str, TermError>
     }
 }
 
-/// The slot that is the only term of a text.
+/// Returns the slot that is the only term of a text.
 fn only_slot(text: &str) -> Result<usize, TermError>
     ensures { Finds (IsOnly (IsNumber slot_count) (terms_of text.now)) result }
 {
     Ok(number_below(only(text)?, SLOTS as u64)? as usize)
 }
 
-/// The number that is the only term of a text, or none where it has no term.
+/// Returns the number that is the only term of a text, or `None` if it has no term.
 fn number_or_none(text: &str) -> Result<Option<u64>, TermError>
     ensures { Finds (IsOnlyOrNone (terms_of text.now)) result }
 {

@@ -12,7 +12,7 @@ pub enum TermError {
     OutOfMemory,
 }
 
-/// The first term of a text, and what stands behind it. Terms are separated by one or more spaces.
+/// Returns the first term of a text, and what follows it. One or more spaces part terms.
 pub fn next_term(text: &str) -> Option<(&str, &str)>
     ensures term { MatchOption result (terms_of text.now ≡ [])
         (λ next. terms_of text.now ≡ next.0.now ∷ terms_of next.1.now) }
@@ -32,7 +32,7 @@ pub fn next_term(text: &str) -> Option<(&str, &str)>
     }
 }
 
-/// What stands before the first such character of a term, and what stands behind it.
+/// Returns what precedes the first such character of a term, and what follows it.
 pub fn around(term: &str, separator: char) -> Option<(&str, &str)>
     requires { separator < 128 }
     ensures { MatchOption result
@@ -42,7 +42,7 @@ pub fn around(term: &str, separator: char) -> Option<(&str, &str)>
     term.split_once(separator)
 }
 
-/// One or more decimal digits with a value that fits. Leading zeros are allowed, a sign is not.
+/// Reads one or more decimal digits with a value that fits. Leading zeros are allowed, a sign is not.
 #[tactic(auto, using(crate::proofs::Numbers::numbers))]
 pub fn number(term: &str) -> Result<u64, TermError>
     ensures { Finds (IsNumber (2 ^ 64) term.now) result }
@@ -56,7 +56,7 @@ pub fn number(term: &str) -> Result<u64, TermError>
     }
 }
 
-/// Such a number, where it is below a limit.
+/// Reads such a number if it is below a limit.
 #[tactic(auto, using(crate::proofs::Numbers::limited_numbers))]
 pub fn number_below(term: &str, limit: u64) -> Result<u64, TermError>
     ensures { Finds (IsNumber limit term.now) result }

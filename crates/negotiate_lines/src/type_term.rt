@@ -9,7 +9,7 @@ use crate::term::{TermError, around, number};
 use iceoryx2_types::types::{Alignment, TypeDetail, TypeDetailError, TypeVariant};
 use std::alloc::Global;
 
-/// An alignment: a power of two.
+/// Reads an alignment: a power of two.
 pub fn alignment(value: &str) -> Result<Alignment, TermError>
     ensures { Finds (IsAlignmentTerm value.now) result }
 {
@@ -19,7 +19,7 @@ pub fn alignment(value: &str) -> Result<Alignment, TermError>
     }
 }
 
-/// The term `fixed` or `dynamic`.
+/// Reads the term `fixed` or `dynamic`.
 fn type_variant(value: &str) -> Result<TypeVariant, TermError>
     ensures { Finds (IsVariantTerm value.now) result }
 {
@@ -30,7 +30,7 @@ fn type_variant(value: &str) -> Result<TypeVariant, TermError>
     }
 }
 
-/// The four parts of a value around its first three commas.
+/// Returns the four parts of a value around its first three commas.
 fn parts(value: &str) -> Option<(&str, &str, &str, &str)>
     ensures { MatchOption result
         ((first second third fourth : List ℕ) → AreParts value.now first second third fourth → ⊥)
@@ -48,8 +48,8 @@ fn parts(value: &str) -> Option<(&str, &str, &str, &str)>
     Some((first, second, third, fourth))
 }
 
-/// What is known of a type: `fixed` or `dynamic`, its name, its size and its alignment in bytes, with
-/// three commas between them. The name is a leaf. `OutOfMemory` where its text or its copy finds no memory.
+/// Reads a type: `fixed` or `dynamic`, its name, its size and its alignment in bytes, with three commas between them.
+/// The name is a leaf. `OutOfMemory` if its text or its copy finds no memory.
 pub fn type_detail(alloc: Global, form: Form, value: &str) -> Result<TypeDetail, TermError>
     ensures { Reads (IsDetailTerm form value.now) result }
 {

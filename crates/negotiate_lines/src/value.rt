@@ -7,7 +7,7 @@ use crate::term::{TermError, around, number, number_below};
 use iceoryx2_description::event::EventId;
 use iceoryx2_description::time::{ClockFault, Duration, NANOSECONDS_PER_SECOND, Time};
 
-/// Seconds and nanoseconds, around a comma. The nanoseconds are fewer than 1,000,000,000.
+/// Reads seconds and nanoseconds, around a comma. The nanoseconds are fewer than 1,000,000,000.
 fn duration(value: &str) -> Result<Duration, TermError>
     ensures { Finds (IsSpanTerm value.now) result }
 {
@@ -22,7 +22,7 @@ fn duration(value: &str) -> Result<Duration, TermError>
     }
 }
 
-/// Such a length of time, or the term `none`.
+/// Reads such a length of time, or the term `none`.
 pub fn duration_or_none(value: &str) -> Result<Option<Duration>, TermError>
     ensures { Finds (IsNoneOr IsSpanTerm value.now) result }
 {
@@ -32,7 +32,7 @@ pub fn duration_or_none(value: &str) -> Result<Option<Duration>, TermError>
     }
 }
 
-/// The number of an event, or the term `none`.
+/// Reads the number of an event, or the term `none`.
 pub fn event_or_none(value: &str) -> Result<Option<EventId>, TermError>
     ensures { Finds (IsNoneOr IsNatural value.now) result }
 {
@@ -42,7 +42,7 @@ pub fn event_or_none(value: &str) -> Result<Option<EventId>, TermError>
     }
 }
 
-/// The seconds and nanoseconds of a time, or the term `fault`.
+/// Reads the seconds and nanoseconds of a time, or the term `fault`.
 pub(crate) fn time_or_fault(value: &str) -> Result<Result<Time, ClockFault>, TermError>
     ensures { Finds (IsClockTerm value.now) result }
 {
@@ -52,7 +52,7 @@ pub(crate) fn time_or_fault(value: &str) -> Result<Result<Time, ClockFault>, Ter
     }
 }
 
-/// A time since the time zero.
+/// Reads a time since the time zero.
 fn time(value: &str) -> Result<Time, TermError>
     ensures { Finds (IsSpanTerm value.now) result }
 {
@@ -63,7 +63,7 @@ fn time(value: &str) -> Result<Time, TermError>
     }
 }
 
-/// The term `true` or `false`.
+/// Reads the term `true` or `false`.
 pub fn truth_value(value: &str) -> Result<bool, TermError>
     ensures { Finds (IsTruthTerm value.now) result }
 {

@@ -28,13 +28,13 @@ pub enum Kind {
 /// Which of the terms that every pattern has go with a call.
 #[derive(Clone, Copy)]
 pub struct Admitted {
-    /// What the clock gives.
+    /// What the clock answers.
     pub now: bool,
     /// A key that is required.
     pub require_key: bool,
 }
 
-/// The terms that a pattern has for itself.
+/// The terms that one pattern has.
 pub trait HasVocabulary {
     /// A setter of the pattern's builder, with its value.
     type Setter: Drop;
@@ -42,19 +42,19 @@ pub trait HasVocabulary {
     /// The terms, and what they mean.
     ghost vocabulary: { Vocabulary Self.Setter };
 
-    /// The term by which its calls begin.
+    /// Returns the term with which its calls begin.
     fn pattern() -> &'static str
         ensures { result.now ≡ vocabulary.pattern };
 
-    /// Its settings in order, by name, with the kind of value that each takes.
+    /// Returns its settings in order, by name, with the kind of value that each takes.
     fn settings() -> &'static [(&'static str, Kind)]
         ensures { table_of result.now ≡ kinds_of vocabulary.rows };
 
-    /// Whether the calls that create a service are given the time.
+    /// Returns whether the calls that create a service are given the time.
     fn has_clock() -> bool
         ensures { result ≡ vocabulary.has_clock };
 
-    /// The setter of the setting of this name, with this value in a line of this form.
+    /// Reads the setter of the setting of this name, with this value in a line of this form.
     fn setter(alloc: Global, form: Form, name: &str, value: &str) -> Result<Self::Setter, TermError>
         ensures { Reads (IsSettingOf form vocabulary.rows name.now value.now) result };
 

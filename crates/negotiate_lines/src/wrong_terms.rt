@@ -1,4 +1,4 @@
-//! What is wrong with a term behind a name that means nothing.
+//! What is wrong with a term after a name if the term means nothing.
 
 ghost use Rattle.std.specs.Prelude.{◌≡◌, codes};
 ghost use Rattle.negotiate_lines.specs.CallTerms.{Instruction, IsValueOf, IsInstructionOf};
@@ -13,7 +13,7 @@ use crate::term::around;
 use crate::vocabulary::{HasVocabulary, Kind};
 use iceoryx2_builder::command::How;
 
-/// What is wrong with a term that means nothing.
+/// Returns what is wrong with a term that means nothing.
 pub(crate) fn wrong_term<'a, V: HasVocabulary>(form: Form, how: How, term: &'a str) -> LineError<'a>
     requires { (instruction : Instruction V.Setter)
         → IsInstructionOf form V.vocabulary (admitted_of V.vocabulary.has_clock how) term.now instruction → ⊥ }
@@ -25,7 +25,7 @@ pub(crate) fn wrong_term<'a, V: HasVocabulary>(form: Form, how: How, term: &'a s
     }
 }
 
-/// What is wrong with a value that means nothing behind a name.
+/// Returns what is wrong with a value that means nothing after a name.
 fn wrong_value<'a, V: HasVocabulary>(
     form: Form,
     how: How,
@@ -52,7 +52,7 @@ fn wrong_value<'a, V: HasVocabulary>(
     }
 }
 
-/// What is wrong with `now`, where its value means nothing with such a call.
+/// Returns what is wrong with `now` if its value means nothing with such a call.
 fn wrong_now<'a, V: HasVocabulary>(form: Form, how: How, value: &'a str) -> LineError<'a>
     requires { (instruction : Instruction V.Setter) → IsValueOf form V.vocabulary.rows
         (admitted_of V.vocabulary.has_clock how) (codes "now") value.now instruction → ⊥ }
@@ -68,7 +68,7 @@ fn wrong_now<'a, V: HasVocabulary>(form: Form, how: How, value: &'a str) -> Line
     }
 }
 
-/// The kind of value that the first setting of this name takes, where there is such a setting.
+/// Returns the kind of value that the first setting of this name takes, if there is such a setting.
 fn kind_in(settings: &[(&'static str, Kind)], name: &str) -> Option<Kind>
     ensures { result ≡ row_of (table_of settings.now) name.now }
 {

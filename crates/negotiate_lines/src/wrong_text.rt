@@ -1,4 +1,4 @@
-//! How what is wrong with a line is put into words.
+//! Puts into words what is wrong with a line.
 
 ghost use Rattle.std.specs.Prelude.{◌≡◌, ◌++◌, ℕ, List, IfOk, OnOk, map, string_bytes};
 ghost use Rattle.negotiate_lines.specs.Escapes.{shown};
@@ -13,10 +13,10 @@ use crate::nearest::{nearer, nearer_if};
 use crate::vocabulary::{Admitted, Kind};
 use std::alloc::{AllocError, Global};
 
-/// What is wrong with a line, in words. A word of the line is escaped as `escape` does, and of one with more than 64
-/// characters the first 64 are told, and `..`. Where a word that could stand there is near, it is hinted at.
+/// Returns in words what is wrong with a line. A word of the line is escaped as `escape` does. If it has more than 64
+/// characters, the first 64 are told, and `..`. If an allowed word is near, the text hints at it.
 ///
-/// `AllocError` where there is no memory for the text, or for finding what may have been meant.
+/// `AllocError` if there is no memory for the text, or for finding what may have been meant.
 pub fn wrong_text(alloc: Global, wrong: LineError<'_>) -> Result<String, AllocError>
     ensures { IfOk result (λ text. IsWrongText wrong.entry (string_bytes text)) }
 {
@@ -114,7 +114,7 @@ fn write_of(before: &str, word: &str, behind: &str, text: &mut String) -> Result
 }
 
 impl Kind {
-    /// What the value of such a setting is.
+    /// Returns what the value of such a setting is.
     pub fn text(self) -> &'static str
         ensures { result.now ≡ kind_text self }
     {
@@ -131,7 +131,7 @@ impl Kind {
 
 // ---- hints
 
-/// The hint behind what is wrong.
+/// Returns the hint that follows what is wrong.
 fn hint_at(alloc: Global, wrong: LineError<'_>) -> Result<String, AllocError>
     ensures { IfOk result (λ hint. IsHint wrong.entry (string_bytes hint)) }
 {
@@ -157,7 +157,7 @@ fn hint_at(alloc: Global, wrong: LineError<'_>) -> Result<String, AllocError>
     }
 }
 
-/// The word that may have been meant, or else which words could stand there.
+/// Returns the word that may have been meant, or the words that are allowed there.
 fn hint_text(
     alloc: Global,
     nearest: Option<&'static str>,
@@ -171,7 +171,7 @@ fn hint_text(
     }
 }
 
-/// The word by which commands begin that is the nearest to a term.
+/// Returns the word with which commands begin that is nearest to a term.
 fn nearest_command(alloc: Global, term: &str) -> Result<Option<&'static str>, AllocError>
     ensures { IfOk result (λ found. Suggests term.now command_words (now_of found)) }
 {
@@ -182,7 +182,7 @@ fn nearest_command(alloc: Global, term: &str) -> Result<Option<&'static str>, Al
     nearer(alloc, term, found, "rr")
 }
 
-/// The call whose name is the nearest to a term.
+/// Returns the call whose name is nearest to a term.
 fn nearest_call(alloc: Global, term: &str) -> Result<Option<&'static str>, AllocError>
     ensures { IfOk result (λ found. Suggests term.now call_words (now_of found)) }
 {
@@ -191,7 +191,7 @@ fn nearest_call(alloc: Global, term: &str) -> Result<Option<&'static str>, Alloc
     nearer(alloc, term, found, "open_or_create")
 }
 
-/// The word that could stand before `=` that is the nearest to a name.
+/// Returns the word allowed before `=` that is nearest to a name.
 fn nearest_setting(
     alloc: Global,
     name: &str,
@@ -206,7 +206,7 @@ fn nearest_setting(
     nearer_if(alloc, name, found, "require_key", admitted.require_key)
 }
 
-/// Of the nearest of some words and the names of settings the nearest to a name.
+/// Returns the one of some words and the names of settings that is nearest to a name.
 fn nearest_own(
     alloc: Global,
     name: &str,

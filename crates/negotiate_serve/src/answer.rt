@@ -1,4 +1,4 @@
-//! Lines in, answers out.
+//! Reads lines and writes answers.
 
 ghost use Rattle.std.specs.Prelude.{◌≡◌, ℕ, List, Some, IfOk, IfSome};
 ghost use Rattle.negotiate_serve.specs.Served.{AnswersAll, TakesTurn};
@@ -13,7 +13,7 @@ use std::alloc::Global;
 use std::io::{BufRead, Write};
 use std::mem;
 
-/// The bytes of a line, and the text of its answer, whose room is used again for the next one.
+/// The bytes of a line, and the text of its answer, whose room is reused for the next line.
 #[derive(Drop)]
 pub struct Buffers {
     line: Vec<u8>,
@@ -21,7 +21,7 @@ pub struct Buffers {
 }
 
 impl Buffers {
-    /// With nothing in them.
+    /// Returns empty buffers.
     pub fn new(alloc: Global) -> Buffers {
         Buffers {
             line: Vec::new(alloc),
@@ -30,8 +30,8 @@ impl Buffers {
     }
 }
 
-/// Answers line after line, until the input ends, a line is no command, or 2^64 - 2 lines were answered, which is
-/// a failure. A failure isn't written here.
+/// Answers line after line, until the input ends, a line is no command, or 2^64 - 2 lines were answered, which is a
+/// failure. It doesn't write a failure.
 pub fn answer_lines<A: Answerer, R: BufRead, W: Write>(
     alloc: Global,
     reader: &mut R,
@@ -60,7 +60,7 @@ pub fn answer_lines<A: Answerer, R: BufRead, W: Write>(
     Err(ServeError::TooManyLines)
 }
 
-/// Reads the next line and answers it as such lines are, by one write, which is flushed. It is the line with this number,
+/// Reads the next line and answers it as such lines are, by one write, which is flushed. The line has this number,
 /// counted from 1. Returns how the program ends, if it does.
 pub fn answer_next<A, L: Lines<A>, R: BufRead, W: Write>(
     number: u64,

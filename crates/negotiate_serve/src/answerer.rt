@@ -1,4 +1,4 @@
-//! What answers the lines of a program.
+//! Answers the lines of a program.
 
 ghost use Rattle.std.specs.Prelude.{◌≡◌, ℕ, List, OnOk, string_bytes};
 ghost use Rattle.iceoryx2_builder.specs.declared.command.Command.{Command};
@@ -14,9 +14,9 @@ use iceoryx2_session::session::Session;
 use iceoryx2_table::table::Table;
 use std::alloc::AllocError;
 
-/// What answers the commands of lines, one after the other, each by a text.
+/// Answers the commands of lines, one after the other, each by a text.
 pub trait Answerer {
-    /// How the command of a line is answered, and what that makes of the answerer.
+    /// How the command of a line is answered, and the answerer after it.
     ghost answers: { Self → (line : List ℕ) → Command → (text : List ℕ) → Self → Type 0 };
 
     /// What holds of it between two lines.
@@ -24,8 +24,8 @@ pub trait Answerer {
 
     /// Carries out the command of a line, and writes the answer into the text.
     ///
-    /// `AllocError` where memory runs out outside a call. The text may then have a part of the answer, and
-    /// what holds of the answerer still does.
+    /// `AllocError` if memory runs out outside a call. The text may then have a part of the answer, and what holds of
+    /// the answerer still does.
     fn answer(&mut self, line: &[u8], command: Command, text: &mut String) -> Result<(), AllocError>
         requires { IsLine line.now (parsed.Command command) }
         ensures answered { stands self.old → OnOk result (GrowsByAnswer answers
@@ -50,7 +50,7 @@ impl Answerer for Session<Table> {
     }
 }
 
-/// The slot that a command names. A list names none, and no reply to it has one.
+/// Returns the slot that a command names. A list names none, and no reply to it has one.
 pub fn slot_of(command: &Command) -> usize
     ensures { result ≡ slot_named command.now }
 {

@@ -16,7 +16,7 @@ pub const NOT_A_COMMAND: u8 = 2;
 /// The status after a failure.
 pub const FAULT: u8 = 3;
 
-/// How the program ends where nothing fails.
+/// How the program ends if nothing fails.
 #[derive(Debug, Drop, PartialEq, Eq)]
 pub enum Ending {
     /// The input ended, and each of its lines was answered.
@@ -57,7 +57,7 @@ pub enum ServeError {
 }
 
 impl ServeError {
-    /// The failure of a read that failed. That memory ran out is told apart.
+    /// Returns the failure of a read that failed. It tells apart that memory ran out.
     pub fn of_reading(error: &io::Error) -> ServeError
         ensures is { result ≡ failure_of_reading (error_kind error.now) }
         ensures of_reading { IsOfReading result }
@@ -68,7 +68,7 @@ impl ServeError {
         }
     }
 
-    /// What is written of it behind the program's name, on the writer of errors.
+    /// Returns what is written after the program's name, on the writer of errors.
     pub fn reason(self) -> &'static str
         ensures { result.now ≡ reason_of self }
     {
@@ -92,7 +92,7 @@ impl From<AllocError> for ServeError {
     }
 }
 
-/// The status with which the program ends.
+/// Returns the status with which the program ends.
 pub fn status(ended: &Result<Ending, ServeError>) -> u8
     ensures { result ≡ status_of ended.now }
 {

@@ -1,4 +1,4 @@
-//! What the program reads: an input, line by line.
+//! The program's input, line by line.
 
 ghost use Rattle.std.specs.Prelude.{◌≡◌, ℕ, List, Some, IfOk, IfErr};
 ghost use Rattle.negotiate_serve.specs.Endings.{IsOfReading};
@@ -8,10 +8,10 @@ use crate::ending::ServeError;
 use negotiate_lines::line::without_end;
 use std::io::BufRead;
 
-/// Reads the next line, without its end, in place of what `line` held, and returns whether there was one.
+/// Reads the next line, without its end, into `line` instead of what that held, and returns whether there was one.
 ///
-/// `ServeError` where the reader answers an error, or there is no memory for the line. An interrupted read is tried
-/// again. The reader is not to be used behind a failure.
+/// `ServeError` if the reader answers an error, or there is no memory for the line. An interrupted read is tried again.
+/// Don't use the reader after a failure.
 pub fn next_line<R: BufRead>(reader: &mut R, line: &mut Vec<u8>) -> Result<bool, ServeError>
     ensures read { IfOk result (λ found. (input : List ℕ) → R.remaining reader.old ≡ Some input
         → ReadsLine input found line.new.items (R.remaining reader.new)) }

@@ -13,7 +13,7 @@ use negotiate_lines::line_error::LineError;
 use negotiate_lines::wrong_text::wrong_text;
 use std::alloc::AllocError;
 
-/// How lines are answered by an answerer.
+/// Answers lines by an answerer.
 pub trait Lines<A> {
     /// How a line is answered by a text, from a state of the answerer to the next one.
     ghost lines: { Self → AnsweringLines A };
@@ -26,7 +26,7 @@ pub trait Lines<A> {
 
     /// Writes the answer to one line, which has this number, into the text, and returns whether the program goes on.
     ///
-    /// `AllocError` where memory runs out outside a call. The text may then have a part of the answer, and what holds of
+    /// `AllocError` if memory runs out outside a call. The text may then have a part of the answer, and what holds of
     /// the answerer still does.
     fn answer_line(
         &self,
@@ -41,7 +41,7 @@ pub trait Lines<A> {
         ensures stands { stands answerer.old → stands answerer.new };
 }
 
-/// Plain lines: the commands are answered by the answerer, and wrong lines so.
+/// Plain lines: the answerer answers the commands, and wrong lines become this.
 impl<A: Answerer> Lines<A> for WrongLines {
     ghost lines = { λ w. LinesBy w A.answers };
 
@@ -68,7 +68,7 @@ impl<A: Answerer> Lines<A> for WrongLines {
     }
 }
 
-/// Writes what is written of a line of which this is wrong, and returns whether the program goes on.
+/// Writes what is written of a wrong line, and returns whether the program goes on.
 fn answer_wrong(
     number: u64,
     wrong_lines: WrongLines,
@@ -94,7 +94,7 @@ fn answer_wrong(
     }
 }
 
-/// Writes the reply to a line of which this is wrong, and an end after it. `AllocError` where there is no memory.
+/// Writes the reply to a wrong line, and an end after it. `AllocError` if there is no memory.
 pub fn reply_wrong(wrong: LineError<'_>, end: &str, text: &mut String) -> Result<(), AllocError>
     ensures { OnOk result (GrowsBy (IsReplyToWrong end.now wrong.entry)
         (string_bytes text.old) (string_bytes text.new)) }

@@ -1,4 +1,4 @@
-//! What the program writes: one text after the other.
+//! The program's output: one text after the other.
 
 ghost use Rattle.std.specs.Prelude.{IfErr};
 ghost use Rattle.std.specs.Io.KnownBytes.{Keeps};
@@ -10,8 +10,8 @@ use std::io::{ErrorKind, Write};
 
 /// Writes a text, and flushes it.
 ///
-/// `ServeError` where the writer answers an error, takes nothing, or is interrupted 2^64 - 1 times one after the
-/// other. It has taken a front of the text then.
+/// `ServeError` if the writer answers an error, takes nothing, or is interrupted 2^64 - 1 times in a row. It has then
+/// taken a prefix of the text.
 pub fn write_out<W: Write>(text: &[u8], output: &mut W) -> Result<(), ServeError>
     ensures { Writes text.now result (W.contents output.old) (W.contents output.new) }
 {
@@ -31,7 +31,7 @@ fn write_text<W: Write>(text: &[u8], output: &mut W) -> Result<(), ServeError>
     Ok(())
 }
 
-/// Writes a front of a text that isn't empty, and returns how long it is. An interrupted write is tried again.
+/// Writes a prefix of a text that isn't empty, and returns its length. An interrupted write is tried again.
 fn write_front<W: Write>(text: &[u8], output: &mut W) -> Result<usize, ServeError>
     ensures { TakesFront text.now result (W.contents output.old) (W.contents output.new) }
 {
@@ -43,8 +43,7 @@ fn write_front<W: Write>(text: &[u8], output: &mut W) -> Result<usize, ServeErro
     Err(ServeError::TooManyTries)
 }
 
-/// Asks the writer once to take a text that isn't empty, and returns how much of it it took, or `None` where it was
-/// interrupted.
+/// Asks the writer once to take a text that isn't empty, and returns how much it took, or `None` if it was interrupted.
 fn write_once<W: Write>(text: &[u8], output: &mut W) -> Result<Option<usize>, ServeError>
     ensures { TakesOnce text.now result (W.contents output.old) (W.contents output.new) }
 {
@@ -71,7 +70,7 @@ fn flush<W: Write>(output: &mut W) -> Result<(), ServeError>
     Err(ServeError::TooManyTries)
 }
 
-/// Asks the writer once to flush, and returns whether it did. It didn't where it was interrupted.
+/// Asks the writer once to flush, and returns whether it did. It didn't if it was interrupted.
 fn flush_once<W: Write>(output: &mut W) -> Result<bool, ServeError>
     ensures kept { Keeps (W.contents output.old) (W.contents output.new) }
     ensures err { IfErr result IsOfWriting }

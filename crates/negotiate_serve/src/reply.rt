@@ -11,10 +11,9 @@ use iceoryx2_world::listing::{Entry, ListedRow, ListedSegment};
 use negotiate_lines::leaf::{Form, escape_leaf};
 use std::alloc::AllocError;
 
-/// Writes the text of a reply to a command for this slot: a line, and for a listing a line for each
-/// service before it.
+/// Writes the text of a reply to a command for this slot: a line, and for a listing a line for each service before it.
 ///
-/// `AllocError` where the text finds no memory, and where the reply is that there was none.
+/// `AllocError` if the text finds no memory, or if the reply is that there was none.
 pub fn describe(reply: &Reply, slot: usize, text: &mut String) -> Result<(), AllocError>
     ensures { OnOk result (GrowsBy (IsReplyText slot reply.now) (string_bytes text.old) (string_bytes text.new)) }
 {
@@ -31,7 +30,7 @@ pub fn describe(reply: &Reply, slot: usize, text: &mut String) -> Result<(), All
     }
 }
 
-/// Writes a line for each service among the entries, in their order, with names of this form, and how many they are.
+/// Writes a line for each service among the entries, in their order, with names of this form, and how many there are.
 /// `AllocError` as `describe`.
 pub fn describe_services(form: Form, entries: &[Entry], text: &mut String) -> Result<(), AllocError>
     ensures { OnOk result (GrowsBy (ListsServices form entries.now) (string_bytes text.old) (string_bytes text.new)) }
@@ -45,8 +44,8 @@ pub fn describe_services(form: Form, entries: &[Entry], text: &mut String) -> Re
     writeln!(text, "{count} services")
 }
 
-/// Writes the line of an entry that is a service, and returns whether it is one: its description is
-/// published, and its segment stands beside it.
+/// Writes the line of an entry that is a service, and returns whether it is one: its description is published, and its
+/// segment is there.
 fn describe_entry(form: Form, entry: &Entry, text: &mut String) -> Result<bool, AllocError>
     ensures { IfOk result (λ found.
         GrowsByEntry form found entry.now (string_bytes text.old) (string_bytes text.new)) }
@@ -89,7 +88,7 @@ fn describe_service(
     Ok(true)
 }
 
-/// The term by which a pattern's command lines begin.
+/// Returns the term with which a pattern's command lines begin.
 pub fn term_of(pattern: &MessagingPattern) -> &'static str
     ensures { result.now ≡ pattern_term pattern.now }
 {
@@ -100,7 +99,7 @@ pub fn term_of(pattern: &MessagingPattern) -> &'static str
     }
 }
 
-/// Writes the front of a service's line: its pattern, its name and its hash.
+/// Writes the first part of a service's line: its pattern, its name and its hash.
 fn describe_identity(
     form: Form,
     hash: &ServiceHash,
@@ -127,7 +126,7 @@ fn describe_name(form: Form, name: &str, text: &mut String) -> Result<(), AllocE
     }
 }
 
-/// Writes the rest of it: its number, and how many nodes it has of how many.
+/// Writes the rest of it: its number, how many nodes it has, and how many it is for.
 fn describe_segment(
     number: u64,
     segment: ListedSegment,

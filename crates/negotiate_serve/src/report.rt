@@ -1,4 +1,4 @@
-//! What is written to the standard error where a program ends.
+//! What is written to the standard error when a program ends.
 
 ghost use Rattle.std.specs.Prelude.{IfOk, string_bytes};
 ghost use Rattle.negotiate_lines.specs.declared.line.Line.TheVariants as line;
@@ -14,9 +14,9 @@ use std::alloc::{AllocError, Global};
 use std::io::Write;
 
 /// Writes the line of the failure by which a program of this name ended, or of what is wrong with the line that is no
-/// command, and nothing where the input ended.
+/// command. It writes nothing if the input ended.
 ///
-/// `ServeError` as `write_out` does, and `OutOfMemory` where there is no memory for the line. Nothing is written then.
+/// `ServeError` as `write_out` does, and `OutOfMemory` if there is no memory for the line. Nothing is written then.
 pub fn report<W: Write>(
     program: &str,
     ended: &Result<Ending, ServeError>,
@@ -61,7 +61,7 @@ fn report_line<W: Write>(
     }
 }
 
-/// What is written of a line with this number: what is wrong with it, if anything is.
+/// Returns what is written of a line with this number: what is wrong with it, if anything is.
 fn report_text(alloc: Global, program: &str, number: u64, line: &[u8]) -> Result<String, AllocError>
     ensures { IfOk result (λ text. IsReport program.now number line.now (string_bytes text)) }
 {
@@ -71,7 +71,7 @@ fn report_text(alloc: Global, program: &str, number: u64, line: &[u8]) -> Result
     }
 }
 
-/// What is written of a line that is this.
+/// Returns what is written of a line that is this.
 fn line_text(
     alloc: Global,
     program: &str,
@@ -87,7 +87,7 @@ fn line_text(
     }
 }
 
-/// The line of what is wrong.
+/// Returns the line of what is wrong.
 fn told_line(
     alloc: Global,
     program: &str,

@@ -1,4 +1,4 @@
-//! The whole program: an input in, its transcript out.
+//! The whole program: an input, and its transcript.
 
 ghost use Rattle.std.specs.Prelude.{◌≡◌, ℕ, List, Some};
 ghost use Rattle.negotiate_serve.specs.Served.{HasNothing, WritesFailure, Serves, ServesBy};
@@ -13,13 +13,12 @@ use iceoryx2_table::table::Table;
 use std::alloc::Global;
 use std::io::{BufReader, Read, Write};
 
-/// Answers each line of an input, over a table of its own: it writes the input's transcript and nothing
-/// else, each reply before the next line is read, and returns how it ended. Whatever that is, the factories
-/// that are still open are closed.
+/// Answers each line of an input, over a table of its own. It writes the input's transcript and nothing else, each
+/// reply before it reads the next line, and returns how it ended. Then it closes the factories that are still open.
 ///
-/// `ServeError` where the reader or the writer answers an error, where a count is at its end (`ServeError` tells
-/// which), and where memory runs out outside a call. The writer has taken a front of a transcript then; if memory ran
-/// out, `out of memory` follows it.
+/// `ServeError` if the reader or the writer answers an error, if a count is at its end (`ServeError` tells which), or
+/// if memory runs out outside a call. The writer has then taken a prefix of a transcript. If memory ran out, `out of
+/// memory` follows it.
 pub fn serve<R: Read + Drop, W: Write>(
     alloc: Global,
     input: R,
@@ -32,7 +31,7 @@ pub fn serve<R: Read + Drop, W: Write>(
     ended
 }
 
-/// Answers each line of an input over a table of its own, and gives the table back, in which nothing is left.
+/// Answers each line of an input over a table of its own, and returns the table, in which nothing is left.
 fn serve_session<R: Read + Drop, W: Write>(
     alloc: Global,
     input: R,
@@ -49,8 +48,8 @@ fn serve_session<R: Read + Drop, W: Write>(
     (ended, session.finish())
 }
 
-/// Answers each line of an input by an answerer: it writes what this answers to the input and nothing else,
-/// each answer before the next line is read, and returns how it ended.
+/// Answers each line of an input by an answerer. It writes what this answers to the input and nothing else, each answer
+/// before it reads the next line, and returns how it ended.
 ///
 /// `ServeError` as `serve` does.
 pub fn serve_by<A: Answerer, R: Read + Drop, W: Write>(
@@ -73,7 +72,7 @@ pub fn serve_by<A: Answerer, R: Read + Drop, W: Write>(
     }
 }
 
-/// Writes `out of memory` where that is the failure. Where it can't be written, writing is the failure.
+/// Writes `out of memory` if that is the failure. If it can't be written, writing is the failure.
 pub fn write_failure<W: Write>(failure: ServeError, output: &mut W) -> ServeError
     ensures { WritesFailure failure result (W.contents output.old) (W.contents output.new) }
 {

@@ -16,10 +16,10 @@ use iceoryx2_file_log::options::{FileLogOptions, Sharing};
 use std::alloc::{AllocError, Global};
 use std::time::Duration;
 
-/// What the words ask for, the first of which is the program's name. `home` is the log where no word names one, and
-/// what is asked for is printed on this screen. `None` where the words name no command, or nothing names a log.
+/// Returns what the words ask for. The first word is the program's name. `home` is the log that is used if no word
+/// names one. What is asked for is printed on this screen. `None` if the words name no command, or nothing names a log.
 ///
-/// `Error` where the words are wrong, or ask for help or the version, and where there is no memory.
+/// `Error` if the words are wrong, ask for help or the version, or if there is no memory.
 pub fn arguments<'a>(
     alloc: Global,
     home: Option<&'a str>,
@@ -33,7 +33,7 @@ pub fn arguments<'a>(
     Ok(asked_by(screen, &matches))
 }
 
-/// Whether the words ask for the command of before by which programs in other languages had sessions.
+/// Returns whether the words ask for the former command by which programs in other languages had sessions.
 pub fn asks_session(words: &[String]) -> bool
     ensures { result ≡ asks_session words.now }
 {
@@ -59,7 +59,7 @@ fn asked_by<'a>(screen: Screen, matches: &ArgMatches<'a>) -> Option<Asked<'a>> {
     viewing_by(screen, matches)
 }
 
-/// What a command that shows something asks for.
+/// Returns what a command that shows something asks for.
 fn viewing_by<'a>(screen: Screen, matches: &ArgMatches<'a>) -> Option<Asked<'a>> {
     if let Some(matches) = matches.subcommand_matches("list") {
         return Some(Asked::List(list_of(screen, matches)?));
@@ -76,7 +76,7 @@ fn viewing_by<'a>(screen: Screen, matches: &ArgMatches<'a>) -> Option<Asked<'a>>
     None
 }
 
-/// The run that was matched. `None` where a value is missing that each match has.
+/// Returns the run that was matched. `None` if a value is missing that each match has.
 fn run_of<'a>(matches: &ArgMatches<'a>) -> Option<Run<'a>>
     ensures at { IfSome result (λ run. first_value (found_of matches.now) (codes "at") ≡ Some run.place.at.now) }
 {
@@ -90,13 +90,13 @@ fn run_of<'a>(matches: &ArgMatches<'a>) -> Option<Run<'a>>
     })
 }
 
-/// The call that was matched. `None` where a value is missing that each match has.
+/// Returns the call that was matched. `None` if a value is missing that each match has.
 fn hold_of<'a>(alloc: Global, matches: &ArgMatches<'a>) -> Result<Option<Asked<'a>>, AllocError> {
     let terms = terms_of(alloc, matches)?;
     Ok(hold_with(matches, terms))
 }
 
-/// The same with these terms.
+/// Does the same with these terms.
 fn hold_with<'a>(matches: &ArgMatches<'a>, terms: Vec<&'a str>) -> Option<Asked<'a>> {
     let place = making_place_of(matches)?;
     let pattern = matches.get_str("pattern")?;
@@ -112,7 +112,7 @@ fn hold_with<'a>(matches: &ArgMatches<'a>, terms: Vec<&'a str>) -> Option<Asked<
     }))
 }
 
-/// The terms that were matched.
+/// Returns the terms that were matched.
 fn terms_of<'a>(alloc: Global, matches: &ArgMatches<'a>) -> Result<Vec<&'a str>, AllocError> {
     let mut terms = Vec::new(alloc);
     if let Some(found) = matches.get_strs("terms") {
@@ -121,7 +121,7 @@ fn terms_of<'a>(alloc: Global, matches: &ArgMatches<'a>) -> Result<Vec<&'a str>,
     Ok(terms)
 }
 
-/// The look that was matched. `None` where a value is missing that each match has.
+/// Returns the look that was matched. `None` if a value is missing that each match has.
 fn look_of<'a>(screen: Screen, matches: &ArgMatches<'a>) -> Option<Look<'a>>
     ensures at { IfSome result (λ look. first_value (found_of matches.now) (codes "at") ≡ Some look.place.at.now) }
 {
@@ -134,7 +134,7 @@ fn look_of<'a>(screen: Screen, matches: &ArgMatches<'a>) -> Option<Look<'a>>
     })
 }
 
-/// The form that was matched.
+/// Returns the form that was matched.
 fn form_of(matches: &ArgMatches<'_>) -> Form {
     if matches.get_flag("json") {
         return Form::Json;
@@ -149,7 +149,7 @@ fn form_of(matches: &ArgMatches<'_>) -> Form {
     }
 }
 
-/// The list that was matched. `None` where a value is missing that each match has.
+/// Returns the list that was matched. `None` if a value is missing that each match has.
 fn list_of<'a>(screen: Screen, matches: &ArgMatches<'a>) -> Option<List<'a>>
     ensures at { IfSome result (λ list. first_value (found_of matches.now) (codes "at") ≡ Some list.place.at.now) }
 {
@@ -169,7 +169,7 @@ fn list_of<'a>(screen: Screen, matches: &ArgMatches<'a>) -> Option<List<'a>>
     })
 }
 
-/// The service that was matched. `None` where a value is missing that each match has.
+/// Returns the service that was matched. `None` if a value is missing that each match has.
 fn show_of<'a>(screen: Screen, matches: &ArgMatches<'a>) -> Option<Show<'a>>
     ensures at { IfSome result (λ show.
         first_value (found_of matches.now) (codes "at") ≡ Some show.look.place.at.now) }
@@ -182,7 +182,7 @@ fn show_of<'a>(screen: Screen, matches: &ArgMatches<'a>) -> Option<Show<'a>>
     })
 }
 
-/// The service of this name, and of the pattern that the word names, if there is one.
+/// Returns the service of this name, and of the pattern that the word names, if there is one.
 fn wanted<'a>(name: &'a str, pattern: Option<&str>) -> Wanted<'a> {
     match pattern_of(pattern) {
         Some(pattern) => Wanted::OfPattern(name, pattern),
@@ -190,7 +190,7 @@ fn wanted<'a>(name: &'a str, pattern: Option<&str>) -> Wanted<'a> {
     }
 }
 
-/// The pattern of this word.
+/// Returns the pattern of this word.
 fn pattern_of(word: Option<&str>) -> Option<Pattern> {
     match word {
         Some("event") => Some(Pattern::Event),
@@ -200,7 +200,7 @@ fn pattern_of(word: Option<&str>) -> Option<Pattern> {
     }
 }
 
-/// The cleaning that was matched. `None` where a value is missing that each match has.
+/// Returns the cleaning that was matched. `None` if a value is missing that each match has.
 fn clean_of<'a>(matches: &ArgMatches<'a>) -> Option<Clean<'a>>
     ensures at { IfSome result (λ clean.
         first_value (found_of matches.now) (codes "at") ≡ Some clean.place.at.now) }
@@ -212,7 +212,7 @@ fn clean_of<'a>(matches: &ArgMatches<'a>) -> Option<Clean<'a>>
     })
 }
 
-/// The look at entries that was matched. `None` where a value is missing that each match has.
+/// Returns the look at entries that was matched. `None` if a value is missing that each match has.
 fn log_look_of<'a>(matches: &ArgMatches<'a>) -> Option<LogLook<'a>>
     ensures at { IfSome result (λ look. first_value (found_of matches.now) (codes "at") ≡ Some look.place.at.now) }
 {
@@ -225,7 +225,7 @@ fn log_look_of<'a>(matches: &ArgMatches<'a>) -> Option<LogLook<'a>>
     })
 }
 
-/// The log that was matched, which is made where there is none. `None` where a value is missing that each match has.
+/// Returns the log that was matched, which is made if there is none. `None` if a value is missing that each match has.
 fn making_place_of<'a>(matches: &ArgMatches<'a>) -> Option<Place<'a>>
     ensures at { IfSome result (λ place. first_value (found_of matches.now) (codes "at") ≡ Some place.at.now) }
 {
@@ -240,7 +240,7 @@ fn making_place_of<'a>(matches: &ArgMatches<'a>) -> Option<Place<'a>>
     })
 }
 
-/// The log that was matched. `None` where a value is missing that each match has.
+/// Returns the log that was matched. `None` if a value is missing that each match has.
 fn place_of<'a>(matches: &ArgMatches<'a>) -> Option<Place<'a>>
     ensures at { IfSome result (λ place. first_value (found_of matches.now) (codes "at") ≡ Some place.at.now) }
 {
@@ -259,7 +259,7 @@ fn place_of<'a>(matches: &ArgMatches<'a>) -> Option<Place<'a>>
     })
 }
 
-/// Who may read and write a file that is made, by whether its group may.
+/// Returns who may read and write a file that is made, by whether its group may.
 fn sharing_of(group: bool) -> Sharing
     ensures { result ≡ cond group sharing.Group sharing.User }
 {

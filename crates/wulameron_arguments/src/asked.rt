@@ -9,12 +9,12 @@ use iceoryx2_file_log::options::FileLogOptions;
 /// How a log in a database is named: by this, and then its name.
 pub const DATABASE: &str = "postgres:";
 
-/// A log in a file or in a database, and how it is used.
+/// A log in a file or in a database, and its options.
 #[derive(Clone, Copy)]
 pub struct Place<'a> {
     /// The path of the log's file, or `postgres:` and the name of a log in a database.
     pub at: &'a str,
-    /// How it is used. Of a log in a database only how long is tried to hold it.
+    /// Its options. For a log in a database only the time counts in which it tries to hold the log.
     pub options: FileLogOptions,
     /// The word that names the pipes to the database's client, as `wulameron-postgres` gives it.
     pub psql: Option<&'a str>,
@@ -31,12 +31,12 @@ pub struct Database<'a> {
 }
 
 impl<'a> Place<'a> {
-    /// The name of the log in a database. `None` where the log is in a file.
+    /// Returns the name of the log in a database. `None` if the log is in a file.
     pub fn database_log(&self) -> Option<&'a str> {
         self.at.strip_prefix(DATABASE)
     }
 
-    /// The log in a database, once its pipes are open. `None` where the log is in a file.
+    /// Returns the log in a database, once its pipes are open. `None` if the log is in a file.
     pub fn database(&self) -> Option<Database<'a>> {
         match self.pipes {
             None => None,
@@ -48,27 +48,27 @@ impl<'a> Place<'a> {
     }
 }
 
-/// That the lines of the standard input are to be answered.
+/// Asks for answers to the lines of the standard input.
 #[derive(Clone, Copy)]
 pub struct Run<'a> {
     pub place: Place<'a>,
-    /// The node in whose name the lines are. `None` where any will do.
+    /// The node in whose name the lines are. `None` if any will do.
     pub node: Option<u64>,
     /// Whether each reply is explained.
     pub explains: bool,
-    /// Whether what dead nodes have is given back.
+    /// Whether it releases what dead nodes have.
     pub cleans: bool,
-    /// Whether the first line that is no command ends it. Else each has a reply.
+    /// Whether the first line that is no command ends it. Otherwise each has a reply.
     pub is_strict: bool,
     /// Whether lines are escaped, and may be questions.
     pub is_escaped: bool,
 }
 
-/// A call whose factory is to be held.
+/// Asks for a call whose factory is held.
 #[derive(Drop)]
 pub struct Hold<'a> {
     pub place: Place<'a>,
-    /// The node in whose name the call is. `None` where any will do.
+    /// The node in whose name the call is. `None` if any will do.
     pub node: Option<u64>,
     /// The words of the call: its pattern, whether it creates or opens, the service's name, and the terms after it.
     pub pattern: &'a str,
@@ -77,7 +77,7 @@ pub struct Hold<'a> {
     pub terms: Vec<&'a str>,
 }
 
-/// In which form what is looked at is printed.
+/// The form in which a look is printed.
 #[derive(Clone, Copy)]
 pub enum Form {
     /// Text for people.
@@ -90,11 +90,11 @@ pub enum Form {
     JsonLines,
 }
 
-/// How what is looked at is printed.
+/// How a look is printed.
 #[derive(Clone, Copy)]
 pub struct Shown {
     pub form: Form,
-    /// Whether what is dead is red in a text for people.
+    /// Whether a text for people shows in red what is dead.
     pub is_coloured: bool,
 }
 
@@ -119,13 +119,13 @@ pub enum Pattern {
     RequestResponse,
 }
 
-/// Which services are listed: those of which all of this is so. A service that is being created is listed where nothing
+/// Which services are listed: those for which all of this is true. A service that is being created is listed if nothing
 /// is asked for, since neither its name nor its pattern is known.
 #[derive(Clone, Copy)]
 pub struct Filter<'a> {
     /// The name has this text in it.
     pub text: Option<&'a str>,
-    /// It is of this pattern.
+    /// The service has this pattern.
     pub pattern: Option<Pattern>,
 }
 
@@ -133,19 +133,19 @@ pub struct Filter<'a> {
 #[derive(Clone, Copy)]
 pub struct Listed<'a> {
     pub shown: Shown,
-    /// How many columns of a terminal a line of a table has at most, as far as names can be cut for that. `None` where
+    /// How many columns of a terminal a line of a table has at most, as far as names can be cut for that. `None` if
     /// nothing is cut.
     pub width: Option<u64>,
     /// Which ones.
     pub filter: Filter<'a>,
 }
 
-/// That the services of a log are to be listed.
+/// Asks for a list of the services of a log.
 #[derive(Clone, Copy)]
 pub struct List<'a> {
     pub place: Place<'a>,
     pub listed: Listed<'a>,
-    /// Whether they are listed anew with each change.
+    /// Whether they are listed again with each change.
     pub watches: bool,
 }
 
@@ -168,17 +168,17 @@ pub struct Show<'a> {
     pub wanted: Wanted<'a>,
 }
 
-/// That what dead nodes have is to be given back.
+/// Asks to release what dead nodes have.
 #[derive(Clone, Copy)]
 pub struct Clean<'a> {
     pub place: Place<'a>,
-    /// The node it is for. `None` for each that is dead.
+    /// The node for which it cleans up. `None` for each dead node.
     pub node: Option<u64>,
-    /// Whether it is only printed what would be given back.
+    /// Whether it only prints what would be released.
     pub is_dry_run: bool,
 }
 
-/// That the entries of a log are to be printed.
+/// Asks for the entries of a log.
 #[derive(Clone, Copy)]
 pub struct LogLook<'a> {
     pub place: Place<'a>,
@@ -201,7 +201,7 @@ pub enum Asked<'a> {
     Show(Show<'a>),
     /// The nodes are to be listed.
     Nodes(Look<'a>),
-    /// What dead nodes have is to be given back.
+    /// What dead nodes have is to be released.
     Clean(Clean<'a>),
     /// The log's entries are to be printed.
     Log(LogLook<'a>),
@@ -212,7 +212,7 @@ pub enum Asked<'a> {
 }
 
 impl<'a> Asked<'a> {
-    /// The log that it is asked for.
+    /// Returns the log of what is asked for.
     pub fn place(&mut self) -> &mut Place<'a> {
         match self {
             Asked::Run(run) => &mut run.place,
@@ -227,7 +227,7 @@ impl<'a> Asked<'a> {
         }
     }
 
-    /// Whether lines are answered that are escaped.
+    /// Returns whether escaped lines are answered.
     pub fn is_escaped(&self) -> bool
         ensures { result ≡ is_escaped self.now }
     {
@@ -237,7 +237,7 @@ impl<'a> Asked<'a> {
         }
     }
 
-    /// The path of the log that is made where there is none. `None` where the command makes none.
+    /// Returns the path of the log that is made if there is none. `None` if the command makes none.
     pub fn made_log(&self) -> Option<&'a str>
         ensures { option_map (λ path. path.now) result ≡ made_log self.now }
     {

@@ -1,4 +1,4 @@
-//! Where the log lies that no word names.
+//! Finds the log that no word names.
 
 ghost use Rattle.std.specs.Prelude.{◌≡◌, IfOk, None, bytes_eq, cond, option_map, string_bytes};
 ghost use Rattle.wulameron_arguments.specs.Home.{default_path, log_in};
@@ -18,17 +18,17 @@ const LOG_VARIABLE: &str = "WULAMERON_LOG";
 /// The variable of the environment that names the folder of what a user's programs share until a restart.
 const RUNTIME_VARIABLE: &str = "XDG_RUNTIME_DIR";
 
-/// Whose owner is the user of this process.
+/// Its owner is the user of this process.
 const OWN_PROCESS: &str = "/proc/self";
 
 /// The log that no word names.
 pub struct DefaultLog {
     pub path: String,
-    /// The folder that has to be this user's. `None` where the environment names the log itself.
+    /// The folder that has to be this user's. `None` if the environment names the log itself.
     pub folder: Option<String>,
 }
 
-// Written out, so that a proof of what lets one go doesn't take its fields apart.
+// It is written out, so that proofs of what lets one go don't pay for each field.
 impl Drop for DefaultLog {
     fn drop(self) {
         let DefaultLog { path: _, folder: _ } = self;
@@ -36,7 +36,7 @@ impl Drop for DefaultLog {
 }
 
 impl DefaultLog {
-    /// The folder that has to be this user's for a log of this path, where that is this log's.
+    /// Returns the folder that has to be this user's for a log of this path, if the path is this log's.
     pub fn folder_for(&self, path: &str) -> Option<&str>
         ensures { option_map (λ folder. folder.now) result
             ≡ cond (bytes_eq (string_bytes self.now.path) path.now) (option_map string_bytes self.now.folder) None }
@@ -51,7 +51,7 @@ impl DefaultLog {
     }
 }
 
-/// What the environment and the system tell of where a log may lie.
+/// What the environment and the system tell about the place of a log.
 #[derive(Drop)]
 struct Surroundings {
     /// The log that is named.
@@ -62,11 +62,11 @@ struct Surroundings {
     user: Option<u32>,
 }
 
-/// Where the log lies that no word names: where the environment's `WULAMERON_LOG` names it, in `wulameron/log` in the
-/// folder of `XDG_RUNTIME_DIR`, or else in a folder of the user's under `/dev/shm`. `None` where none of these is known.
+/// Returns the log that no word names: the one that the environment's `WULAMERON_LOG` names, or `wulameron/log` in the
+/// folder of `XDG_RUNTIME_DIR`, or a log in a folder of the user's under `/dev/shm`. `None` if none of these is known.
 /// A variable that is empty or isn't UTF-8 names nothing, and a folder has to be an absolute path.
 ///
-/// `AllocError` where there is no memory.
+/// `AllocError` if there is no memory.
 pub fn default_log<R: Env + Files<File = File> + AllocGlobal>(
     rt: &R,
 ) -> Result<Option<DefaultLog>, AllocError> {
@@ -78,7 +78,7 @@ pub fn default_log<R: Env + Files<File = File> + AllocGlobal>(
     default_log_in(rt.alloc(), surroundings)
 }
 
-/// The variable, where it is there and not empty.
+/// Returns the variable, if it is set and not empty.
 pub(crate) fn variable<R: Env + AllocGlobal>(
     rt: &R,
     name: &str,
@@ -90,7 +90,7 @@ pub(crate) fn variable<R: Env + AllocGlobal>(
     }
 }
 
-/// The number of this process's user, where the system tells it.
+/// Returns the number of this process's user, if the system tells it.
 fn user<R: Files<File = File>>(rt: &R) -> Option<u32> {
     match fs::metadata(rt, OWN_PROCESS) {
         Ok(metadata) => Some(metadata.uid()),
@@ -98,7 +98,7 @@ fn user<R: Files<File = File>>(rt: &R) -> Option<u32> {
     }
 }
 
-/// Where the log lies by these.
+/// Returns the log by these.
 fn default_log_in(
     alloc: Global,
     surroundings: Surroundings,
@@ -122,7 +122,7 @@ fn default_log_in(
     }
 }
 
-/// The log in this folder.
+/// Returns the log in this folder.
 fn in_folder(alloc: Global, folder: String) -> Result<DefaultLog, AllocError>
     ensures path { IfOk result (λ log. string_bytes log.path ≡ log_in (string_bytes folder)) }
 {
@@ -136,7 +136,7 @@ fn in_folder(alloc: Global, folder: String) -> Result<DefaultLog, AllocError>
 /// Why the folder of the log isn't used.
 #[derive(Clone, Copy)]
 pub enum FolderError {
-    /// Another user has it or may change it, or it is no folder.
+    /// Another user owns it or may change it, or it is no folder.
     NotOwn,
     /// The system refused.
     Refused(FileFault),
@@ -159,9 +159,10 @@ impl fmt::Display for FolderError {
     }
 }
 
-/// Makes the folder of the log where there is none, for this user alone. One that is there has to be this user's alone.
+/// Makes the folder of the log if there is none, for this user alone. A folder that is there has to be this user's
+/// alone.
 ///
-/// `NotOwn`, and `Refused` where the system refuses.
+/// `NotOwn`, and `Refused` if the system refuses.
 pub fn make_folder<R: Files<File = File>>(rt: &R, folder: &str) -> Result<(), FolderError> {
     match DirBuilder::new().mode(0o700).create(rt, folder) {
         Ok(()) => Ok(()),
@@ -170,7 +171,7 @@ pub fn make_folder<R: Files<File = File>>(rt: &R, folder: &str) -> Result<(), Fo
     }
 }
 
-/// Whether a folder is this user's alone.
+/// Tests that a folder is this user's alone.
 fn test_folder<R: Files<File = File>>(rt: &R, folder: &str) -> Result<(), FolderError> {
     match fs::symlink_metadata(rt, folder) {
         Ok(found) => {

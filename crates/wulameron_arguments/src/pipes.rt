@@ -13,21 +13,21 @@ struct Ends {
     replies: File,
 }
 
-/// Where the launcher is asked for the pipes to another client, and tells them.
+/// The place at which the launcher is asked for the pipes to another client, and tells them.
 #[derive(Drop)]
 struct Again {
     asked: File,
     told: File,
 }
 
-/// The pipes to the client of a database. They are to one client after the other: whoever has a reference to them writes
-/// to the last one, and reads from it.
+/// The pipes to the client of a database. They are to one client after the other: anyone who has a reference to them
+/// writes to the last one, and reads from it.
 pub struct Pipes {
     ends: RefCell<Option<Ends>>,
     again: Option<Again>,
 }
 
-// Written out, so that a proof of what lets one go doesn't take its fields apart.
+// It is written out, so that proofs of what lets one go don't pay for each field.
 impl Drop for Pipes {
     fn drop(self) {
         let Pipes { ends: _, again: _ } = self;
@@ -41,7 +41,7 @@ pub enum PipesError {
     NotPipes,
     /// One of them can't be opened, or the client doesn't read.
     Refused,
-    /// The launcher gives no others.
+    /// The launcher has no others.
     NoOthers,
 }
 
@@ -59,7 +59,7 @@ fn to_read<F: Files<File = File>>(rt: &F, path: &str) -> Result<File, PipesError
     }
 }
 
-/// A word of two paths, with a colon between them.
+/// Returns the two paths of a word, with a colon between them.
 fn two(word: &str) -> Result<(&str, &str), PipesError> {
     match word.split_once(':') {
         Some(paths) => Ok(paths),
@@ -90,7 +90,7 @@ fn again_at<F: Files<File = File>>(rt: &F, word: &str) -> Result<Again, PipesErr
 }
 
 impl Again {
-    /// Asks the launcher for the pipes to another client, and gives the word that names them.
+    /// Asks the launcher for the pipes to another client, and returns the word that names them.
     fn ask(&self, alloc: Global) -> Result<String, PipesError> {
         let Ok(()) = (&self.asked).write_all(b"\n") else {
             return Err(PipesError::NoOthers);
@@ -144,7 +144,7 @@ impl Pipes {
     }
 }
 
-/// What a client says. Once the pipes are closed, nothing.
+/// What a client says. It says nothing once the pipes are closed.
 impl Read for &Pipes {
     fn read(&mut self, buf: &mut [u8]) -> io::Result<usize> {
         let Ok(ends) = self.ends.try_borrow() else {
@@ -157,7 +157,7 @@ impl Read for &Pipes {
     }
 }
 
-/// What a client is asked. Once the pipes are closed, nothing is.
+/// What a client is asked. It is asked nothing once the pipes are closed.
 impl Write for &Pipes {
     fn write(&mut self, buf: &[u8]) -> io::Result<usize> {
         let Ok(ends) = self.ends.try_borrow() else {

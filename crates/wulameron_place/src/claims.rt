@@ -1,5 +1,5 @@
-//! The nodes at a place: who claims one, and which are alive. Beside a log in a file they are files with locks, and at
-//! one in a database rows, and locks of the database's session.
+//! Claims nodes at a place, and tells which are alive. Beside a log in a file they are files with locks. At a log in a
+//! database they are rows, and locks of the database's session.
 
 ghost use Rattle.std.specs.Prelude.{◌≡◌, IfOk, IfSome};
 ghost use Rattle.wulameron_place.specs.Dead.{named_node, token_advice_of};
@@ -22,17 +22,17 @@ use std::time::{Clock, Duration};
 use wulameron_arguments::asked::{Database, Place};
 use wulameron_arguments::pipes::Pipes;
 
-/// The claim of a node: no other process has one as long as it stands.
+/// The claim of a node: no other process has one as long as it exists.
 #[derive(Drop)]
 pub enum Claim {
-    /// By the lock of a file, which goes with it.
+    /// By the lock of a file, which ends with the token.
     File(Token),
-    /// By a lock of the database's session, which goes with the session.
+    /// By a lock of the database's session, which ends with the session.
     Session { node: u64 },
 }
 
 impl Claim {
-    /// The node's number.
+    /// Returns the node's number.
     pub fn node(&self) -> u64
         ensures { result ≡ named_node self.now }
     {
@@ -80,7 +80,7 @@ impl fmt::Display for NodeFault {
     }
 }
 
-/// Why the file of a node isn't claimed, or not looked at, which is told with what can be done.
+/// Why the file of a node isn't claimed, or not looked at. It is told with what can be done.
 #[derive(Clone, Copy)]
 pub struct TokenTrouble(pub MonitoringFault);
 
@@ -98,7 +98,7 @@ impl fmt::Display for TokenTrouble {
     }
 }
 
-/// What can be done where the file of a node, or the folder in which it lies, refused.
+/// Returns what can be done if the file of a node, or its folder, refused.
 fn token_advice(fault: FileFault) -> &'static str
     ensures { result.now ≡ token_advice_of fault }
 {
@@ -117,8 +117,7 @@ pub enum NodeError {
 
 // ---- claims
 
-/// Claims the node that is named at the place, or the lowest that is free. It tries for the named one as long as for the
-/// log.
+/// Claims the named node at the place, or the lowest that is free. It tries for the named one as long as for the log.
 pub fn claim_node<F: Files<File = File> + Clock + RandomSource + AllocGlobal>(
     rt: &F,
     place: Place<'_>,
@@ -139,7 +138,7 @@ pub fn claim_node<F: Files<File = File> + Clock + RandomSource + AllocGlobal>(
     }
 }
 
-/// The token of the node that is named beside the log's file, or of the lowest that is free.
+/// Returns the token of the named node beside the log's file, or of the lowest that is free.
 fn token_of<F: Files<File = File> + Clock + RandomSource + AllocGlobal>(
     rt: &F,
     place: Place<'_>,
@@ -154,7 +153,7 @@ fn token_of<F: Files<File = File> + Clock + RandomSource + AllocGlobal>(
     }
 }
 
-/// The node that the session has claimed at the database's log: the one that is named, or the lowest that is free.
+/// Returns the node that the session has claimed at the database's log: the named one, or the lowest that is free.
 fn claim_of_session(
     alloc: Global,
     database: Database<'_>,
@@ -187,7 +186,7 @@ fn claim_of_session(
     }
 }
 
-/// A duration in milliseconds, as far as they have room.
+/// Returns a duration in milliseconds, as far as they have room.
 pub(crate) fn millis(duration: Duration) -> u64 {
     match u64::try_from(duration.as_millis()) {
         Ok(millis) => millis,
@@ -195,7 +194,7 @@ pub(crate) fn millis(duration: Duration) -> u64 {
     }
 }
 
-/// A reader of what the session tells. Each reply is read whole, so that none has bytes left over.
+/// Returns a reader of the session's replies. It reads each reply whole, so that none has bytes left over.
 fn replies_of<'a>(
     alloc: Global,
     database: Database<'a>,
@@ -208,7 +207,7 @@ fn replies_of<'a>(
 
 // ---- states
 
-/// Each node that was claimed at the place, by rising number, and whether it is alive.
+/// Returns each node that was claimed at the place, by rising number, and whether it is alive.
 pub fn list<F: Files<File = File> + AllocGlobal>(
     rt: &F,
     place: Place<'_>,
@@ -252,7 +251,7 @@ fn status_of(row: NodeRow) -> NodeStatus {
     }
 }
 
-/// Whether this node is alive.
+/// Returns whether this node is alive.
 pub fn state_of<F: Files<File = File> + AllocGlobal>(
     rt: &F,
     place: Place<'_>,
@@ -267,7 +266,7 @@ pub fn state_of<F: Files<File = File> + AllocGlobal>(
     }
 }
 
-/// The state of this node by those of all that were ever claimed.
+/// Returns the state of this node, by those of all that were ever claimed.
 fn state_among(found: &[NodeStatus], node: u64) -> NodeState {
     for status in found {
         if status.node == node {
@@ -279,7 +278,7 @@ fn state_among(found: &[NodeStatus], node: u64) -> NodeState {
 
 // ---- claims of dead nodes
 
-/// Claims a node that is dead, if it is dead still, by its file.
+/// Claims a dead node, if it is still dead, by its file.
 pub(crate) fn dead_token<F: Files<File = File> + Clock + RandomSource + AllocGlobal>(
     rt: &F,
     path: &str,
@@ -292,7 +291,7 @@ pub(crate) fn dead_token<F: Files<File = File> + Clock + RandomSource + AllocGlo
     }
 }
 
-/// The same by a lock of the session.
+/// Does the same by a lock of the session.
 pub(crate) fn dead_lock(
     alloc: Global,
     database: Database<'_>,
@@ -306,8 +305,8 @@ pub(crate) fn dead_lock(
     Err(NodeFault::IsAlive { node })
 }
 
-/// For how long is tried to claim a node again, in milliseconds. The server notices before that a machine is gone on
-/// which its last session was.
+/// For how long it tries to claim a node again, in milliseconds. Before that time the server notices that the machine
+/// of the last session is gone.
 const AGAIN_MILLIS: u64 = 30_000;
 
 /// Claims a node of this program in a new session of the database.
@@ -324,7 +323,7 @@ pub(crate) fn lock_again(
     )
 }
 
-/// Gives the lock of a node back. What the session refuses ends it, and the lock with it.
+/// Releases the lock of a node. If the session refuses, that ends the session, and the lock with it.
 pub(crate) fn give_lock_back(alloc: Global, database: Database<'_>, node: u64) {
     let mut questions = database.pipes;
     if let Ok(mut replies) = replies_of(alloc, database) {

@@ -1,4 +1,4 @@
-//! The command that gives back what dead nodes have, or writes what that would be.
+//! Releases what dead nodes have, or writes what that would be.
 
 ghost use Rattle.std.specs.Prelude.{◌≡◌, ◌∷◌, [], IfOk, IfSome};
 ghost use Rattle.iceoryx2_journal.specs.Taking.{is_own};
@@ -26,28 +26,28 @@ use std::rt::Files;
 use std::time::Clock;
 use wulameron_arguments::asked::{Clean, Place};
 
-/// The status where a node that was named isn't dead.
+/// The status if a named node isn't dead.
 pub const NOT_DEAD: u8 = 1;
 
-/// What a world has where a step of a rehearsal is refused.
+/// What a world refuses if it refuses a step of a rehearsal.
 pub const STAYS: &str = "refuses to release what a dead node has; run `wulameron check`";
 
 /// Why there are no nodes to clean up for.
 #[derive(Drop)]
 pub enum Unfound {
-    /// The node that was named isn't dead.
+    /// The named node isn't dead.
     NotDead(NotDead),
     /// A node's file, the log's folder or the database refused.
     Failed(NodeError),
     OutOfMemory,
 }
 
-/// Gives back what dead nodes have over the log of a place, of all or of the one that is named, with a line on the
-/// output for each of which there was something. As a dry run it only writes what that would be, and appends nothing.
-/// The log has to be there.
+/// Releases what dead nodes have over the log of a place, of all or of the named one, with a line on the output for
+/// each node that had something. A dry run only writes what that would be, and appends nothing. The log has to be
+/// there.
 ///
-/// Gives the status with which the program ends: 0; 1 where the node that is named isn't dead; or 3 after a failure.
-/// The writer of errors has a line of these.
+/// Returns the status with which the program ends: 0; 1 if the named node isn't dead; or 3 after a failure. With 1 or 3
+/// the writer of errors has a line.
 pub fn clean<F: Files<File = File> + Clock + RandomSource + AllocGlobal, W: Write, E: Write>(
     rt: &F,
     asked: &Clean<'_>,
@@ -71,7 +71,7 @@ pub fn clean<F: Files<File = File> + Clock + RandomSource + AllocGlobal, W: Writ
 
 // ---- which nodes
 
-/// The dead nodes at the place, or the one that is named where it is dead.
+/// Returns the dead nodes at the place, or the named one if it is dead.
 pub fn wanted_nodes<F: Files<File = File> + AllocGlobal>(
     rt: &F,
     place: Place<'_>,
@@ -88,7 +88,7 @@ pub fn wanted_nodes<F: Files<File = File> + AllocGlobal>(
     }
 }
 
-/// This node, where it is dead.
+/// Returns this node, if it is dead.
 fn named_node<F: Files<File = File> + AllocGlobal>(
     rt: &F,
     place: Place<'_>,
@@ -108,7 +108,7 @@ fn named_node<F: Files<File = File> + AllocGlobal>(
     }
 }
 
-/// Tells why there are no nodes to clean up for, and gives the status.
+/// Tells why there are no nodes to clean up for, and returns the status.
 fn end_unfound<E: Write>(why: &Unfound, reports: &mut Reports<'_, E>) -> u8 {
     match why {
         Unfound::NotDead(why) => {
@@ -123,9 +123,9 @@ fn end_unfound<E: Write>(why: &Unfound, reports: &mut Reports<'_, E>) -> u8 {
     }
 }
 
-// ---- what they have is given back
+// ---- what they have is released
 
-/// Gives back what these nodes have.
+/// Releases what these nodes have.
 fn clean_found<F: Files<File = File> + Clock + RandomSource + AllocGlobal, W: Write, E: Write>(
     rt: &F,
     asked: &Clean<'_>,
@@ -153,13 +153,13 @@ fn clean_found<F: Files<File = File> + Clock + RandomSource + AllocGlobal, W: Wr
 /// Which of some nodes weren't cleaned up for.
 #[derive(Clone, Copy)]
 pub struct Spared {
-    /// One at least is alive.
+    /// At least one is alive.
     pub some_alive: bool,
-    /// The log or a node's file refused for one at least.
+    /// The log or a node's file refused for at least one.
     pub some_refused: bool,
 }
 
-/// The status where these were spared. That a node which is named is alive is told.
+/// Returns the status after these were spared. It tells if a named node is alive.
 fn end_clean<E: Write>(spared: Spared, named: Option<u64>, reports: &mut Reports<'_, E>) -> u8 {
     if spared.some_refused {
         return FAULT;
@@ -176,10 +176,10 @@ fn end_clean<E: Write>(spared: Spared, named: Option<u64>, reports: &mut Reports
     }
 }
 
-/// Gives back what these nodes have, as far as they are dead, with a line for each of which there was something. Where
-/// the log or a node's file refuses for one of them it goes on with the others.
+/// Releases what these nodes have, as far as they are dead, with a line for each node that had something. If the log or
+/// a node's file refuses for one of them, it goes on with the others.
 ///
-/// `ServeError` where a line can't be written, or there is no memory for it.
+/// `ServeError` if a line can't be written, or there is no memory for it.
 pub fn clean_nodes<L: Refusing + SpansCalls, D: DeadNodes, W: Write>(
     alloc: Global,
     journal: &mut Journal<L>,
@@ -210,13 +210,13 @@ pub fn clean_nodes<L: Refusing + SpansCalls, D: DeadNodes, W: Write>(
 pub enum Found {
     /// It isn't dead any more.
     Alive,
-    /// It was dead, and this was given back.
+    /// It was dead, and this was released.
     Cleaned(Cleaned),
     /// Its file or the log refused.
     Refused,
 }
 
-/// Gives back what a node has, where it is dead still.
+/// Releases what a node has, if it is still dead.
 fn clean_node<L: Refusing + SpansCalls, D: DeadNodes>(
     journal: &mut Journal<L>,
     dead: &D,
@@ -238,7 +238,7 @@ fn clean_node<L: Refusing + SpansCalls, D: DeadNodes>(
     }
 }
 
-/// What became of a dead node.
+/// Returns what became of a dead node.
 pub fn found_by(cleaned: Result<Cleaned, CleanError>) -> Found {
     match cleaned {
         Ok(cleaned) => Found::Cleaned(cleaned),
@@ -246,7 +246,7 @@ pub fn found_by(cleaned: Result<Cleaned, CleanError>) -> Found {
     }
 }
 
-/// Writes what was given back for a node, where there was something.
+/// Writes what was released for a node, if it had something.
 fn write_cleaned<W: Write>(
     alloc: Global,
     node: u64,
@@ -263,9 +263,9 @@ fn write_cleaned<W: Write>(
     }
 }
 
-// ---- what they have would be given back
+// ---- what they have would be released
 
-/// Writes what would be given back of what these nodes have.
+/// Writes what would be released of what these nodes have.
 fn rehearse_found<F: Files<File = File> + Clock + RandomSource + AllocGlobal, W: Write, E: Write>(
     rt: &F,
     asked: &Clean<'_>,
@@ -292,8 +292,8 @@ fn rehearse_found<F: Files<File = File> + Clock + RandomSource + AllocGlobal, W:
     }
 }
 
-/// The world that a journal's log comes to: all of it is taken over, and nothing appended. `None` where not all can be
-/// taken over, which is told.
+/// Returns the world that a journal's log comes to: all of it is taken over, and nothing appended. `None` if not all
+/// can be taken over, which is told.
 pub fn caught_up<L: Refusing + Drop, E: Write>(
     journal: Journal<L>,
     reports: &mut Reports<'_, E>,

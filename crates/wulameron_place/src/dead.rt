@@ -16,35 +16,35 @@ use std::rt::Files;
 use std::time::Clock;
 use wulameron_arguments::asked::Place;
 
-/// Who finds nodes that are dead, and claims them.
+/// Finds dead nodes, and claims them.
 pub trait DeadNodes {
-    /// What keeps others from claiming a node, until it is given back.
+    /// What keeps others from claiming a node, until it is released.
     type Claim: Drop;
 
-    /// Nodes that were dead a moment ago. Those are left out that can't be had.
+    /// Returns nodes that were dead a moment ago. It leaves out those that can't be had.
     fn found(&self, alloc: Global) -> Vec<u64>;
 
-    /// Claims a node, where it is dead still.
+    /// Claims a node, if it is still dead.
     fn claim(&self, node: u64) -> Result<Self::Claim, Unclaimed>;
 
-    /// Gives a claim back.
+    /// Releases a claim.
     fn give_back(&self, claim: Self::Claim);
 
-    /// Claims a node of this program once more, after the session with the database had ended, in another one. False
-    /// where there is none, or another process has the node.
+    /// Claims a node of this program once more, in another session with the database after one had ended. Returns false
+    /// if there is none, or another process has the node.
     fn reclaim(&self, node: u64) -> bool;
 }
 
 /// Why a node isn't claimed.
 #[derive(Clone, Copy)]
 pub enum Unclaimed {
-    /// It is alive, or another has claimed it meanwhile.
+    /// It is alive, or another process has claimed it meanwhile.
     IsAlive,
     /// Its file refused.
     Refused,
 }
 
-/// Why a node isn't claimed whose file or database refused so.
+/// Returns why a node isn't claimed whose file or database refused with this error.
 fn why_unclaimed(error: &NodeError) -> Unclaimed
     ensures { result ≡ unclaimed_by error.now }
 {
@@ -60,10 +60,10 @@ fn why_unclaimed(error: &NodeError) -> Unclaimed
     }
 }
 
-/// Why a node that was named isn't cleaned up for.
+/// Why a named node isn't cleaned up for.
 #[derive(Clone, Copy)]
 pub enum NotDead {
-    /// A process has it.
+    /// A process has claimed it.
     IsAlive { node: u64 },
     /// There is no file of it.
     NeverClaimed { node: u64 },
@@ -83,7 +83,7 @@ impl fmt::Display for NotDead {
     }
 }
 
-/// Why a node of this state isn't cleaned up for. `None` where it is.
+/// Returns why a node of this state isn't cleaned up for. `None` if it is.
 pub fn not_dead(node: u64, state: NodeState) -> Option<NotDead>
     ensures { result ≡ not_dead_of node state }
 {
@@ -94,7 +94,7 @@ pub fn not_dead(node: u64, state: NodeState) -> Option<NotDead>
     }
 }
 
-/// The nodes at a place. Where nothing is to be cleaned up it finds none.
+/// The nodes at a place. If nothing is to be cleaned up, it finds none.
 #[derive(Drop)]
 pub struct PlaceNodes<'a, F> {
     pub rt: &'a F,
@@ -103,7 +103,7 @@ pub struct PlaceNodes<'a, F> {
 }
 
 impl<'a, F> PlaceNodes<'a, F> {
-    /// Those of which the dead ones are to be cleaned up for.
+    /// Returns the nodes of this place, whose dead ones are to be cleaned up for.
     pub fn of(rt: &'a F, place: Place<'a>) -> PlaceNodes<'a, F> {
         PlaceNodes {
             rt,
@@ -113,7 +113,7 @@ impl<'a, F> PlaceNodes<'a, F> {
     }
 }
 
-/// The dead ones, as far as there is memory.
+/// Returns the dead ones, as far as there is memory.
 pub fn dead_of(alloc: Global, nodes: &[NodeStatus]) -> Vec<u64> {
     let mut dead = Vec::new(alloc);
     for status in nodes {
@@ -163,7 +163,7 @@ impl<'a, F: Files<File = File> + Clock + RandomSource + AllocGlobal> DeadNodes
     }
 }
 
-/// Claims a node that is dead, if it is dead still.
+/// Claims a dead node, if it is still dead.
 fn dead_claim<F: Files<File = File> + Clock + RandomSource + AllocGlobal>(
     rt: &F,
     place: Place<'_>,

@@ -10,7 +10,7 @@ pub enum Halt {
     Serving(ServeError),
     /// The log can't be used any more, of which the writer of errors has a line.
     Log(Trouble),
-    /// Something of the node stays, since the log refused to give it back.
+    /// Something of the node stays, because the log refused to release it.
     Owing,
 }
 

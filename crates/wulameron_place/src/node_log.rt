@@ -27,8 +27,8 @@ pub struct NodeLog<L> {
     pub node: u64,
 }
 
-/// Gives back what the node had when its last process ended, and makes it an own one of a journal that has none. False
-/// where the log refuses or isn't what the journal can follow, or there is no memory. It can be done again then.
+/// Releases what the node had when its last process ended, and makes it an own one of a journal that has none. Returns
+/// false if the log refuses, if the journal can't follow it, or if there is no memory. It can be done again then.
 fn adopt<L: Log>(journal: &mut Journal<L>, node: u64) -> bool
     requires { journal.old.nodes ≡ [] }
     ensures lives { Lives L.contents journal.old journal.new }
@@ -41,8 +41,8 @@ fn adopt<L: Log>(journal: &mut Journal<L>, node: u64) -> bool
     journal.adopt(node).is_ok()
 }
 
-/// Takes over what stands in a log that isn't held meanwhile. False where the log refuses. What seems damaged is read
-/// again by who holds it.
+/// Takes over what is in a log that isn't held meanwhile. Returns false if the log refuses. The next holder reads again
+/// what seems damaged.
 fn reads<L: Refusing>(journal: &mut Journal<L>) -> bool
     ensures lives { Lives L.contents journal.old journal.new }
     ensures agrees { Agrees journal.old.world → Agrees journal.new.world }
@@ -54,8 +54,8 @@ fn reads<L: Refusing>(journal: &mut Journal<L>) -> bool
     journal.trouble().is_none()
 }
 
-/// What keeps a node from being started over a journal, which is told. Where nothing goes wrong at the log there was no
-/// memory.
+/// Tells what keeps a node from being started over a journal, and returns it. If nothing goes wrong at the log, there
+/// was no memory.
 fn halt_at<L: Refusing, E: Write>(journal: &Journal<L>, reports: &mut Reports<'_, E>) -> Halt
     ensures of_start { is_of_start result ≡ true }
     ensures why { HaltsBy (trouble_of journal.now.is_over (L.refused journal.now.log)) result }
@@ -68,10 +68,9 @@ fn halt_at<L: Refusing, E: Write>(journal: &Journal<L>, reports: &mut Reports<'_
 }
 
 impl<L: Refusing + SpansCalls + Drop> NodeLog<L> {
-    /// Starts the node over a journal of its log. What stands in the log is read before it is held. What goes wrong at
-    /// the log is told.
+    /// Starts the node over a journal of its log. It reads the log before it holds it, and tells what goes wrong there.
     ///
-    /// `Halt` where the log refuses, by what goes wrong there, or there is no memory.
+    /// `Halt` if the log refuses, by what goes wrong there, or if there is no memory.
     pub fn start<E: Write>(
         self,
         alloc: Global,

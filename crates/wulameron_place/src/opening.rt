@@ -1,4 +1,4 @@
-//! Opening a log, and claiming a node at it. What can't be had is told.
+//! Opens a log, and claims a node at it. It tells what can't be had.
 
 ghost use Rattle.std.specs.Prelude.{◌≡◌, IfOk, IfSome};
 ghost use Rattle.iceoryx2_postgres_log.specs.declared.postgres_log.Mode.TheVariants as way;
@@ -29,7 +29,7 @@ use wulameron_arguments::pipes::Pipes;
 /// The log of a place.
 pub type LogAt<'a, F> = PlaceLog<FileLog<&'a F>, PostgresLog<BufReader<&'a Pipes>, &'a Pipes>>;
 
-// A log in a database goes on in the session to which its pipes lead by now, and one in a file needn't.
+// A log in a database goes on in the session to which its pipes lead now. A log in a file needs no other session.
 impl<'a, F: Files<File = File> + Clock + AllocGlobal> Renewing for LogAt<'a, F> {
     fn renewed(&self) -> Option<LogAt<'a, F>> {
         match self {
@@ -42,7 +42,7 @@ impl<'a, F: Files<File = File> + Clock + AllocGlobal> Renewing for LogAt<'a, F> 
     }
 }
 
-/// A handle of a log in a database by which it goes on.
+/// Returns a handle of a log in a database by which it goes on.
 fn renewed_handle<'a>(
     log: &PostgresLog<BufReader<&'a Pipes>, &'a Pipes>,
 ) -> Result<PostgresLog<BufReader<&'a Pipes>, &'a Pipes>, PostgresFault>
@@ -63,7 +63,7 @@ pub struct OpenLog<L> {
 }
 
 impl<L> OpenLog<L> {
-    /// The same for a node that this process has claimed, each of whose calls holds it once.
+    /// Returns the same for a node that this process has claimed. Each of its calls holds the log once.
     pub fn for_node(self, node: u64) -> NodeLog<CallLog<L>> {
         let OpenLog { log, counter } = self;
         NodeLog {
@@ -74,7 +74,7 @@ impl<L> OpenLog<L> {
     }
 }
 
-/// Claims a node as `claim_node` does. `None` where it can't be had, which is told.
+/// Claims a node as `claim_node` does. `None` if it can't be had, which is told.
 pub fn claim<F: Files<File = File> + Clock + RandomSource + AllocGlobal, E: Write>(
     rt: &F,
     place: Place<'_>,
@@ -92,7 +92,7 @@ pub fn claim<F: Files<File = File> + Clock + RandomSource + AllocGlobal, E: Writ
     }
 }
 
-/// Opens the log, which is made where there is none. `None` where it can't be had, which is told.
+/// Opens the log, and makes it if there is none. `None` if it can't be had, which is told.
 pub fn open<'a, F: Files<File = File> + Clock + RandomSource + AllocGlobal, E: Write>(
     rt: &'a F,
     place: Place<'a>,
@@ -107,7 +107,7 @@ pub fn open<'a, F: Files<File = File> + Clock + RandomSource + AllocGlobal, E: W
     }
 }
 
-/// Opens the log, which is made where there is none. `Trouble` where it can't be had.
+/// Opens the log, and makes it if there is none. `Trouble` if it can't be had.
 pub fn opened<'a, F: Files<File = File> + Clock + RandomSource + AllocGlobal>(
     rt: &'a F,
     place: Place<'a>,
@@ -118,7 +118,7 @@ pub fn opened<'a, F: Files<File = File> + Clock + RandomSource + AllocGlobal>(
     }
 }
 
-/// Opens the log in a file, to read it only unless it is made where there is none.
+/// Opens the log in a file, only for reading unless it is made if there is none.
 fn opened_file<'a, F: Files<File = File> + Clock + RandomSource + AllocGlobal>(
     rt: &'a F,
     place: Place<'a>,
@@ -168,8 +168,8 @@ fn opened_database<'a, F>(
     }
 }
 
-/// A journal of the log, which is only read. It has no node, and nothing is taken over yet. `None` where there is no
-/// log, or it can't be had, which is told.
+/// Returns a journal of the log that only reads it. It has no node, and has taken over nothing yet. `None` if there is
+/// no log, or it can't be had, which is told.
 pub fn open_view<'a, F: Files<File = File> + Clock + RandomSource + AllocGlobal, E: Write>(
     rt: &'a F,
     place: Place<'a>,
@@ -187,7 +187,7 @@ pub fn open_view<'a, F: Files<File = File> + Clock + RandomSource + AllocGlobal,
     }
 }
 
-/// Opens the log, to read it only. `Trouble` where there is none, or it can't be had.
+/// Opens the log, only for reading. `Trouble` if there is none, or it can't be had.
 pub fn opened_view<'a, F: Files<File = File> + Clock + RandomSource + AllocGlobal>(
     rt: &'a F,
     place: Place<'a>,
@@ -198,7 +198,7 @@ pub fn opened_view<'a, F: Files<File = File> + Clock + RandomSource + AllocGloba
     }
 }
 
-/// The states of the nodes at the place. `None` where they can't be had, which is told.
+/// Returns the states of the nodes at the place. `None` if they can't be had, which is told.
 pub fn states<F: Files<File = File> + AllocGlobal, E: Write>(
     rt: &F,
     place: Place<'_>,

@@ -1,4 +1,4 @@
-//! A log that lies in a file or in a database.
+//! A log in a file or in a database.
 
 ghost use Rattle.std.specs.Prelude.{◌≡◌};
 ghost use Rattle.wulameron_place.specs.Places.{by_place};

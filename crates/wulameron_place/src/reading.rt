@@ -1,4 +1,4 @@
-//! Reading a log that isn't held.
+//! Reads a log that isn't held.
 
 ghost use Rattle.wulameron_place.specs.Reading.{TakesOver};
 
@@ -6,7 +6,7 @@ use crate::trouble::{Refusing, Trouble, Troubled};
 use iceoryx2_file_log::error::FileFault;
 use iceoryx2_journal::journal::Journal;
 
-/// Whether what was read seems damaged.
+/// Returns whether what was read seems damaged.
 fn seems_damaged(trouble: Option<Trouble>) -> bool {
     match trouble {
         Some(Trouble::Refused(FileFault::Damaged { at: _ })) => true,
@@ -14,8 +14,8 @@ fn seems_damaged(trouble: Option<Trouble>) -> bool {
     }
 }
 
-/// Takes over what others had appended, and answers whether that was all. What seems damaged is read once more: a writer
-/// that died may have left bytes that others have cut off and written over meanwhile.
+/// Takes over what others have appended, and returns whether that was all. It reads once more what seems damaged:
+/// others may meanwhile have cut off and overwritten what a dead writer left.
 pub fn take_over<L: Refusing>(journal: &mut Journal<L>) -> bool
     ensures { TakesOver L.contents result journal.old journal.new }
 {

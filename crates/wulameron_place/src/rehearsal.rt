@@ -1,4 +1,4 @@
-//! What cleaning up for nodes would give back: it is tried in a world of its own, of which no log has anything.
+//! Finds what cleaning up for nodes would release: it is tried in a world of its own, of which no log has anything.
 
 ghost use Rattle.std.specs.Prelude.{◌≡◌};
 ghost use Rattle.iceoryx2_access.specs.Letter.{Letter};
@@ -56,7 +56,7 @@ fn remove_tag(world: &mut StoredWorld, node: u64, hash: &ServiceHash) -> Result<
 
 // ---- what a node has
 
-/// Whether there is a segment that a node of this phase has to remove.
+/// Returns whether there is a segment that a node of this phase has to remove.
 fn has_segment(phase: Phase) -> bool
     ensures { result ≡ has_segment_spec phase }
 {
@@ -66,7 +66,7 @@ fn has_segment(phase: Phase) -> bool
     }
 }
 
-// Something that was removed, where that was granted.
+// Returns something that was removed, if that was granted.
 fn thing(removed: Result<(), RemoveError>) -> Option<GivenBack>
     ensures { result ≡ if_granted given.Thing removed }
 {
@@ -76,7 +76,7 @@ fn thing(removed: Result<(), RemoveError>) -> Option<GivenBack>
     }
 }
 
-/// Gives back what the node has. `None` where the world refuses that.
+/// Releases what the node has. `None` if the world refuses that.
 fn give_back(world: &mut StoredWorld, node: u64, held: Holding) -> Option<GivenBack>
     ensures { (l : Letter) × GivesUp node held l × (given_back l ≡ result) × IsOwnPart world.old l world.new }
 {
@@ -99,7 +99,7 @@ fn give_back(world: &mut StoredWorld, node: u64, held: Holding) -> Option<GivenB
     }
 }
 
-/// The step in which this was given back.
+/// Returns the step in which this was released.
 fn step_of(given: Option<GivenBack>) -> Step
     ensures { result ≡ step_with given }
 {
@@ -109,7 +109,7 @@ fn step_of(given: Option<GivenBack>) -> Step
     }
 }
 
-/// With one more.
+/// Adds one more.
 fn with(cleaned: Cleaned, given: GivenBack) -> Cleaned
     ensures { result ≡ with_one cleaned (Some given) }
 {
@@ -125,7 +125,7 @@ fn with(cleaned: Cleaned, given: GivenBack) -> Cleaned
     }
 }
 
-/// Gives one thing back that the node has.
+/// Releases one thing that the node has.
 fn rehearse_next(world: &mut StoredWorld, node: u64) -> Step
     ensures { RehearsesNext node result world.old world.new }
 {
@@ -135,8 +135,8 @@ fn rehearse_next(world: &mut StoredWorld, node: u64) -> Step
     step_of(give_back(world, node, held))
 }
 
-/// Gives back what a node has in this world, as `Journal::clean` does, and returns how much that was. `None` where the
-/// world refuses a step of it; what was given back before stays so.
+/// Releases what a node has in this world, as `Journal::clean` does, and returns how much that was. `None` if the world
+/// refuses a step of it; what was released before stays released.
 pub fn rehearse(world: &mut StoredWorld, node: u64) -> Option<Cleaned>
     ensures { Rehearses node result world.old world.new }
 {

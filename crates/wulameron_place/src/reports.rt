@@ -20,7 +20,7 @@ use std::io::{ErrorKind, Write};
 
 const NO_LOG: &str = "there is no log; name another by --at, or make it by `wulameron hold`";
 
-/// What is told where something of a node stays.
+/// What is told if something of a node stays.
 pub const STAYS: &str = "the log refused to release what this node holds; run `wulameron clean`";
 
 /// A writer of errors for the log of a path.
@@ -29,12 +29,12 @@ pub struct Reports<'a, E> {
     alloc: Global,
     path: &'a str,
     errors: E,
-    /// What was told last by `look`.
+    /// What `look` told last.
     told: Option<Trouble>,
 }
 
 impl<'a, E: Write> Reports<'a, E> {
-    /// Nothing was told.
+    /// Returns reports that have told nothing.
     pub fn new(alloc: Global, path: &'a str, errors: E) -> Reports<'a, E>
         ensures { (result.path.now ≡ path.now) × (result.errors ≡ errors) }
     {
@@ -46,14 +46,14 @@ impl<'a, E: Write> Reports<'a, E> {
         }
     }
 
-    /// What texts are made by.
+    /// Returns the allocator of the texts.
     pub fn alloc(&self) -> Global {
         self.alloc
     }
 
     /// Writes the line of what is wrong with the log, or is wanted of it.
     ///
-    /// `ServeError` as `write_out` does, and where there is no memory for the line.
+    /// `ServeError` as `write_out` does, and if there is no memory for the line.
     pub fn tell<D: fmt::Display + Copy>(&mut self, wrong: D) -> Result<(), ServeError>
         ensures { (text : List ℕ) → D.output wrong ≡ Some text
             → WritesLine (trouble_line self.old.path.now text) result
@@ -105,7 +105,7 @@ impl<'a, E: Write> Reports<'a, E> {
         }
     }
 
-    /// Writes the line of a failure, which isn't of the log. `ServeError` as `write_out` does.
+    /// Writes the line of a failure that isn't of the log. `ServeError` as `write_out` does.
     pub fn tell_failure(&mut self, fault: ServeError) -> Result<(), ServeError>
         ensures { Writes (failure_line (codes "wulameron") fault) result
             (E.contents self.old.errors) (E.contents self.new.errors) }
@@ -113,7 +113,7 @@ impl<'a, E: Write> Reports<'a, E> {
         report_failure("wulameron", fault, &mut self.errors)
     }
 
-    /// Writes the line of a failure, and gives the status that a program ends with then. The line is left out where it
+    /// Writes the line of a failure, and returns the status with which the program then ends. It leaves out a line that
     /// can't be written.
     pub fn fail(&mut self, fault: ServeError) -> u8
         ensures { result ≡ 3 }
@@ -122,8 +122,8 @@ impl<'a, E: Write> Reports<'a, E> {
         FAULT
     }
 
-    /// Tells what keeps a program from going on, and gives the status that it ends with then. Of a log that can't be used
-    /// any more the line was written before.
+    /// Tells what keeps a program from going on, and returns the status with which it then ends. If the log can't be
+    /// used any more, the line was written before.
     pub fn halt(&mut self, halt: Halt) -> u8
         ensures { result ≡ 3 }
     {
@@ -137,15 +137,15 @@ impl<'a, E: Write> Reports<'a, E> {
         }
     }
 
-    /// Writes the line of how a program ended, where there is something wrong.
+    /// Writes the line of how a program ended, if something is wrong.
     ///
     /// `ServeError` as `report` does.
     pub fn tell_end(&mut self, ended: &Result<Ending, ServeError>) -> Result<(), ServeError> {
         report("wulameron", ended, &mut self.errors)
     }
 
-    /// Writes what goes wrong, as a line, where it isn't what was written last. Answers it where the log isn't used any
-    /// more. The line is left out where it can't be written.
+    /// Writes what goes wrong, as a line, unless it is what was written last. Returns it if the log isn't used any
+    /// more. It leaves out a line that can't be written.
     pub fn look<S: Troubled>(&mut self, watched: &S) -> Option<Trouble>
         ensures { result ≡ last_of (S.trouble watched.now) }
     {
@@ -166,7 +166,7 @@ impl<'a, E: Write> Reports<'a, E> {
     }
 }
 
-/// The line of what goes wrong with the log of this path, which is escaped as names are.
+/// Returns the line of what goes wrong with the log of this path, which is escaped as names are.
 fn line_of<D: fmt::Display + Copy>(
     alloc: Global,
     path: &str,

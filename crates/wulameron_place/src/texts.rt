@@ -1,4 +1,4 @@
-//! What is written of cleaning up for nodes.
+//! Texts of cleaning up for nodes.
 
 ghost use Rattle.std.specs.Prelude.{◌≡◌, ◌++◌, IfOk, OnOk, string_bytes};
 ghost use Rattle.wulameron_place.specs.Texts.{RehearsesAll, cleaned_line, counts_text, is_nothing, rehearsed_line};
@@ -9,14 +9,14 @@ use iceoryx2_journal::cleaning::Cleaned;
 use iceoryx2_table::table::stored::StoredWorld;
 use std::alloc::{AllocError, Global};
 
-/// Whether nothing was given back.
+/// Returns whether nothing was released.
 pub fn gave_nothing(cleaned: Cleaned) -> bool
     ensures { result ≡ is_nothing cleaned }
 {
     cleaned.releases == 0 && cleaned.removals == 0
 }
 
-/// Writes the line of what was given back for a node into the text.
+/// Writes the line of what was released for a node into the text.
 pub fn describe_cleaned(node: u64, cleaned: Cleaned, text: &mut String) -> Result<(), AllocError>
     ensures { OnOk result (string_bytes text.new ≡ string_bytes text.old ++ cleaned_line node cleaned) }
 {
@@ -24,7 +24,7 @@ pub fn describe_cleaned(node: u64, cleaned: Cleaned, text: &mut String) -> Resul
     write_counts(cleaned, text)
 }
 
-/// Writes how much was given back, to the end of the line.
+/// Writes how much was released, to the end of the line.
 fn write_counts(cleaned: Cleaned, text: &mut String) -> Result<(), AllocError>
     ensures { OnOk result (string_bytes text.new ≡ string_bytes text.old ++ counts_text cleaned) }
 {
@@ -32,18 +32,18 @@ fn write_counts(cleaned: Cleaned, text: &mut String) -> Result<(), AllocError>
     writeln!(text, "{releases} releases, {removals} removals")
 }
 
-/// Why it isn't written what would be given back.
+/// Why it isn't written what would be released.
 #[derive(Clone, Copy)]
 pub enum RehearsalError {
-    /// What this node has can't be given back in this world.
+    /// What this node has can't be released in this world.
     Refused { node: u64 },
     OutOfMemory,
 }
 
-/// The lines of what one of these nodes after the other would give back, each in the world that the one before leaves. A
-/// node that has nothing has none.
+/// Returns the lines of what these nodes, one after the other, would release, each in the world that the one before
+/// leaves. A node that has nothing has no line.
 ///
-/// `Refused` where the world refuses a step, `OutOfMemory`.
+/// `Refused` if the world refuses a step, `OutOfMemory`.
 pub fn rehearse_nodes(
     alloc: Global,
     world: &mut StoredWorld,
@@ -64,7 +64,7 @@ pub fn rehearse_nodes(
     Ok(text)
 }
 
-/// Writes the line of what would be given back for a node into the text, where that is something.
+/// Writes the line of what would be released for a node into the text, if that is something.
 fn describe_rehearsed(node: u64, cleaned: Cleaned, text: &mut String) -> Result<(), AllocError>
     ensures { OnOk result (string_bytes text.new ≡ string_bytes text.old ++ rehearsed_text (node, cleaned)) }
 {

@@ -24,19 +24,19 @@ use std::time::Clock;
 /// What goes wrong at a log.
 #[derive(Clone, Copy, PartialEq, Eq)]
 pub enum Trouble {
-    /// An entry is in the name of this program's node, or isn't what its world answers. Nothing is followed or
+    /// An entry is in the name of this program's node, or its world doesn't answer what it says. Nothing is followed or
     /// appended any more.
     Over,
     /// The log's file refused.
     Refused(FileFault),
     /// The database that has the log refused.
     Database(PostgresFault),
-    /// The session with the database had ended, and others gave back meanwhile what this program's node had.
+    /// The session with the database had ended, and meanwhile others released what this program's node had.
     Gone,
 }
 
 impl Trouble {
-    /// Whether the log isn't used any more.
+    /// Returns whether the log isn't used any more.
     pub fn is_last(self) -> bool
         ensures { result ≡ is_last self }
     {
@@ -56,7 +56,7 @@ impl Trouble {
         }
     }
 
-    /// Whether a log in a database may go on in another session.
+    /// Returns whether a log in a database may go on in another session.
     pub fn is_cut(self) -> bool
         ensures { result ≡ is_cut self }
     {
@@ -74,7 +74,7 @@ impl Trouble {
     }
 }
 
-/// What can be done where the system refused by this kind.
+/// Returns what can be done if the system refused with this kind.
 fn kind_advice(kind: ErrorKind) -> &'static str
     ensures { result.now ≡ kind_advice_of kind }
 {
@@ -86,7 +86,7 @@ fn kind_advice(kind: ErrorKind) -> &'static str
     }
 }
 
-/// What can be done where a file refused.
+/// Returns what can be done if a file refused.
 pub fn advice(fault: FileFault) -> &'static str
     ensures { result.now ≡ advice_of fault }
 {
@@ -115,7 +115,7 @@ pub fn advice(fault: FileFault) -> &'static str
     }
 }
 
-/// What can be done where a database refused.
+/// Returns what can be done if a database refused.
 pub fn database_advice(fault: PostgresFault) -> &'static str
     ensures { result.now ≡ database_advice_of fault }
 {
@@ -166,7 +166,7 @@ impl fmt::Display for Trouble {
     }
 }
 
-/// What goes wrong where this is over, or its log refused last for this reason.
+/// Returns what goes wrong if this is over, or its log refused last for this reason.
 pub fn trouble_with(is_over: bool, refused: Option<Trouble>) -> Option<Trouble>
     ensures { result ≡ trouble_of is_over refused }
 {
@@ -176,7 +176,7 @@ pub fn trouble_with(is_over: bool, refused: Option<Trouble>) -> Option<Trouble>
     refused
 }
 
-/// What goes wrong where what was held may be gone, and else this does, or nothing.
+/// Returns that what was held may be gone, if so; otherwise this trouble, if any.
 pub fn trouble_or_gone(is_gone: bool, trouble: Option<Trouble>) -> Option<Trouble>
     ensures { result ≡ or_gone is_gone trouble }
 {
@@ -191,8 +191,8 @@ pub fn trouble_or_gone(is_gone: bool, trouble: Option<Trouble>) -> Option<Troubl
     }
 }
 
-/// What a user has to know of why a log in a file refused. That it goes on in another file, and that a compaction would
-/// save too little, nobody has to: the program goes on by itself.
+/// Returns what a user has to know of why a log in a file refused. Two reasons are left out, since the program goes on
+/// by itself: that the log goes on in another file, and that a compaction would save too little.
 fn file_concern(fault: Option<FileFault>) -> Option<Trouble>
     ensures { result ≡ file_concern_of fault }
 {
@@ -204,7 +204,7 @@ fn file_concern(fault: Option<FileFault>) -> Option<Trouble>
     }
 }
 
-/// The same, but for damage that was found by a handle of this state while it wasn't held.
+/// Does the same, except for damage that a handle of this state found while it didn't hold the log.
 fn file_concern_held(state: State, fault: Option<FileFault>) -> Option<Trouble>
     ensures { result ≡ file_concern_held_of state fault }
 {
@@ -217,7 +217,7 @@ fn file_concern_held(state: State, fault: Option<FileFault>) -> Option<Trouble>
     }
 }
 
-/// The same of a log in a database.
+/// Does the same for a log in a database.
 fn database_concern(fault: Option<PostgresFault>) -> Option<Trouble>
     ensures { result ≡ database_concern_of fault }
 {
@@ -229,12 +229,12 @@ fn database_concern(fault: Option<PostgresFault>) -> Option<Trouble>
     }
 }
 
-/// What is over a log, at which something may go wrong.
+/// Something over a log at which something may go wrong.
 pub trait Troubled {
     /// What goes wrong there.
     ghost trouble: { Self → Option declared.Trouble };
 
-    /// What goes wrong there, or did last.
+    /// Returns what goes wrong there, or went wrong last.
     fn trouble(&self) -> Option<Trouble>
         ensures { result ≡ trouble self.now };
 }
@@ -244,15 +244,15 @@ pub trait Refusing: Log {
     /// Why it refused last.
     ghost refused: { Self → Option declared.Trouble };
 
-    /// Why it refused last, but for damage that was found while it wasn't held.
+    /// Why it refused last, except for damage that was found while it wasn't held.
     ghost refused_held: { Self → Option declared.Trouble };
 
-    /// Why it refused last.
+    /// Returns why it refused last.
     fn refused(&self) -> Option<Trouble>
         ensures { result ≡ refused self.now };
 
-    /// Why it refused last, but for damage that was found while it wasn't held: others may have written over what a
-    /// writer left that died. Whoever holds it next finds out.
+    /// Returns why it refused last, except for damage that was found while it wasn't held: others may have overwritten
+    /// what a dead writer left. The next holder finds out.
     fn refused_held(&self) -> Option<Trouble>
         ensures { result ≡ refused_held self.now };
 }
@@ -286,7 +286,7 @@ impl<R: BufRead, W: Write> Refusing for PostgresLog<R, W> {
     }
 }
 
-// Who makes calls holds it for each of them.
+// A caller holds it for each of its calls.
 impl<L: Refusing> Refusing for CallLog<L> {
     ghost refused = { λ l. L.refused_held l.log };
 
@@ -317,7 +317,7 @@ impl<L: Refusing> Troubled for Journal<L> {
     }
 }
 
-/// What goes wrong, where it is the last of it.
+/// Returns what goes wrong, if it is the last of the log.
 pub fn last_trouble(trouble: Option<Trouble>) -> Option<Trouble>
     ensures { result ≡ last_of trouble }
 {

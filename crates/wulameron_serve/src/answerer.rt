@@ -1,4 +1,4 @@
-//! What answers the lines of one node over a storage that processes share.
+//! Answers the lines of one node over a storage that processes share.
 
 ghost use Rattle.std.specs.Prelude.{◌≡◌, ◌-◌, ℕ, List, IfErr, IfOk, IfSome, OnOk, codes, string_bytes, true};
 ghost use Rattle.iceoryx2_world.specs.Agreement.{Agrees};
@@ -42,7 +42,7 @@ use wulameron_place::halt::Halt;
 use wulameron_place::reports::Reports;
 use wulameron_place::trouble::{Trouble, Troubled, trouble_or_gone};
 
-/// Writes that a line names another node. `AllocError` where there is no memory for the text.
+/// Writes that a line names another node. `AllocError` if there is no memory for the text.
 fn refuse_node(node: u64, text: &mut String) -> Result<(), AllocError>
     ensures { OnOk result (GrowsBy (λ output. output ≡ not_ours node) (string_bytes text.old) (string_bytes text.new)) }
 {
@@ -53,25 +53,25 @@ fn refuse_node(node: u64, text: &mut String) -> Result<(), AllocError>
 #[derive(Drop)]
 struct Carried {
     reply: Reply,
-    /// The slot that it names.
+    /// The slot that the command names.
     slot: usize,
-    /// How many accesses it made, where they are counted.
+    /// How many accesses the command made, if they are counted.
     made: u64,
 }
 
-/// A session, the node in whose name its lines are, and who finds nodes that are dead. It has to be spent by `finish`.
+/// A session, the node in whose name its lines are, and a finder of dead nodes. It has to be spent by `finish`.
 pub struct NodeAnswerer<S, D> {
     pub(crate) node: u64,
     pub(crate) session: Session<S>,
     pub(crate) dead: D,
     /// Whether the log has refused something, so that a command may have left something that no slot holds.
     may_owe: bool,
-    /// Whether slots were emptied, since others gave back what the node had while the log's session was over.
+    /// Whether slots were emptied, because others released what the node had while the log's session was over.
     is_gone: bool,
 }
 
 impl<S: Viewed + Resuming + Troubled, D: DeadNodes + Drop> NodeAnswerer<S, D> {
-    /// A session over a storage of which the node is an own one. All its slots are free.
+    /// Returns an answerer with a new session over a storage of which the node is an own one. All its slots are free.
     pub fn new(node: u64, storage: S, dead: D) -> NodeAnswerer<S, D>
         ensures node { result.node ≡ node }
         ensures session { own_state result.session ≡ fresh_session storage }
@@ -87,7 +87,7 @@ impl<S: Viewed + Resuming + Troubled, D: DeadNodes + Drop> NodeAnswerer<S, D> {
         }
     }
 
-    /// The same for a session that has done something already.
+    /// Returns an answerer with a session that may have done something already.
     pub fn over(node: u64, session: Session<S>, dead: D) -> NodeAnswerer<S, D>
         ensures node { result.node ≡ node }
         ensures session { result.session ≡ session }
@@ -102,7 +102,7 @@ impl<S: Viewed + Resuming + Troubled, D: DeadNodes + Drop> NodeAnswerer<S, D> {
         }
     }
 
-    /// Its session, and who finds nodes that are dead.
+    /// Returns the session and the finder of dead nodes.
     pub fn into_parts(self) -> (Session<S>, D)
         ensures { result.0 ≡ self.session }
     {
@@ -116,14 +116,14 @@ impl<S: Viewed + Resuming + Troubled, D: DeadNodes + Drop> NodeAnswerer<S, D> {
         (session, dead)
     }
 
-    /// The node in whose name its lines are.
+    /// Returns the node in whose name the lines are.
     pub fn node(&self) -> u64
         ensures { result ≡ self.now.node }
     {
         self.node
     }
 
-    /// Gives back what dead nodes have. True where anything was given back.
+    /// Releases what dead nodes have. Returns whether anything was released.
     pub fn clean(&mut self, alloc: Global) -> bool
         ensures node { self.new.node ≡ self.old.node }
         ensures shows { SpansSession S.shows (own_state self.old.session) (own_state self.new.session) }
@@ -133,15 +133,15 @@ impl<S: Viewed + Resuming + Troubled, D: DeadNodes + Drop> NodeAnswerer<S, D> {
         clean_dead(alloc, &mut self.session, &self.dead)
     }
 
-    /// The storage, for its readers.
+    /// Returns the storage, for its readers.
     pub fn storage(&self) -> &S
         ensures { result.now ≡ (own_state self.now.session).table }
     {
         self.session.storage()
     }
 
-    /// Gives back what the node has besides the factories of the slots, where a command may have left something. Where
-    /// the log's session has ended it goes on in another one before.
+    /// Releases what the node has besides the factories of the slots, if a command may have left something. If the
+    /// log's session has ended, it first goes on in another one.
     pub(crate) fn settle(&mut self)
         ensures node { self.new.node ≡ self.old.node }
         ensures gives { GivesBack S.settles (own_state self.old.session) (own_state self.new.session) }
@@ -155,7 +155,7 @@ impl<S: Viewed + Resuming + Troubled, D: DeadNodes + Drop> NodeAnswerer<S, D> {
         self.may_owe = self.session.settle(self.node).is_err();
     }
 
-    /// Whether the log's session has ended.
+    /// Returns whether the log's session has ended.
     pub(crate) fn is_cut(&self) -> bool {
         match self.storage().trouble() {
             Some(trouble) => trouble.is_cut(),
@@ -163,9 +163,9 @@ impl<S: Viewed + Resuming + Troubled, D: DeadNodes + Drop> NodeAnswerer<S, D> {
         }
     }
 
-    /// Where the log's session has ended it goes on in another one: what was appended meanwhile is taken over, and what
-    /// the node has besides the factories of the slots is given back. Where these don't stand any more, the slots are
-    /// emptied before. Where no other session can be had nothing changes.
+    /// Goes on in another session if the log's session has ended: it takes over what was appended meanwhile, and
+    /// releases what the node has besides the factories of the slots. If these factories are gone, it empties the slots
+    /// first. If no other session can be had, nothing changes.
     pub fn go_on(&mut self)
         ensures node { self.new.node ≡ self.old.node }
         ensures gives { GivesBack S.settles (own_state self.old.session) (own_state self.new.session) }
@@ -184,7 +184,7 @@ impl<S: Viewed + Resuming + Troubled, D: DeadNodes + Drop> NodeAnswerer<S, D> {
         self.may_owe = self.session.settle(self.node).is_err();
     }
 
-    /// Closes all that is open, and gives the storage back.
+    /// Closes all that is open, and returns the storage.
     pub fn finish(self) -> S
         ensures closes { ClosesHeld S.spans S.step (own_state self.session).table
             (own_state self.session).slots result }
@@ -266,7 +266,7 @@ impl<S: Viewed + Resuming + Troubled, D: DeadNodes + Drop> NodeAnswerer<S, D> {
         self.write(form, line, &carried, text)
     }
 
-    /// The same, but not where the session had ended before: then no other one could be had.
+    /// Does the same, unless the session had ended before. Then no other session could be had.
     pub(crate) fn go_on_unless(&mut self, was_cut: bool)
         ensures node { self.new.node ≡ self.old.node }
         ensures gives { GivesBack S.settles (own_state self.old.session) (own_state self.new.session) }
@@ -279,8 +279,8 @@ impl<S: Viewed + Resuming + Troubled, D: DeadNodes + Drop> NodeAnswerer<S, D> {
         self.go_on();
     }
 
-    /// Answers a call of a line in this form, unless it is in the name of another node. Where a dead node may be why it
-    /// is refused, what dead nodes have is given back, and then it is made once more.
+    /// Answers a call of a line in this form, unless it is in the name of another node. If the call is refused and a
+    /// dead node may be the cause, it releases what dead nodes have, and makes the call once more.
     fn call(
         &mut self,
         form: Form,
@@ -316,7 +316,7 @@ impl<S: Viewed + Resuming + Troubled, D: DeadNodes + Drop> NodeAnswerer<S, D> {
         }
     }
 
-    /// Shows what others have done up to now. The log isn't held meanwhile, so that a call has little to read while it
+    /// Takes over what others have done up to now. The log isn't held meanwhile, so a call has little to read while it
     /// holds the log.
     pub(crate) fn look(&mut self)
         ensures node { self.new.node ≡ self.old.node }
@@ -327,7 +327,7 @@ impl<S: Viewed + Resuming + Troubled, D: DeadNodes + Drop> NodeAnswerer<S, D> {
         self.session.refresh();
     }
 
-    /// Answers a command of a line in this form, without what stands behind each answer.
+    /// Answers a command of a line in this form, without what follows each answer.
     pub(crate) fn answer_alone(
         &mut self,
         form: Form,
@@ -354,10 +354,10 @@ impl<S: Viewed + Resuming + Troubled, D: DeadNodes + Drop> NodeAnswerer<S, D> {
 }
 
 impl<S: Viewed + Resuming + Troubled + Drop, D: DeadNodes + Drop> NodeAnswerer<S, D> {
-    /// A session over a storage of which the node is an own one, after what dead nodes have was given back. What goes
-    /// wrong at the log is told.
+    /// Returns an answerer over a storage of which the node is an own one, after it has released what dead nodes have.
+    /// It tells what goes wrong at the log.
     ///
-    /// `Halt` where the log can't be used any more.
+    /// `Halt` if the log can't be used any more.
     pub fn cleaned<E: Write>(
         node: u64,
         storage: S,
@@ -387,7 +387,7 @@ impl<S: Viewed + Resuming + Troubled + Drop, D: DeadNodes + Drop> NodeAnswerer<S
     }
 }
 
-/// The call of a line in this form, where it is one in the name of this node and there is memory for it.
+/// Returns the call of a line in this form, if it is one in the name of this node and there is memory for it.
 pub fn call_of(alloc: Global, form: Form, line: &[u8], node: u64) -> Option<Call>
     ensures { IfSome result (λ call.
         IsLineIn form line.now (parsed.Command (command.Call call)) × (call.node ≡ node)) }
@@ -403,7 +403,7 @@ pub fn call_of(alloc: Global, form: Form, line: &[u8], node: u64) -> Option<Call
     }
 }
 
-/// What others did is shown first, and what the node owes of earlier commands is given back. A call in the name of
+/// It first takes over what others did, and releases what the node owes of earlier commands. A call in the name of
 /// another node changes nothing.
 impl<S: Viewed + Resuming + Troubled, D: DeadNodes + Drop> Answerer for NodeAnswerer<S, D> {
     ghost answers = { λ old line c text new. (new.node ≡ old.node) × AnswersWith written.Plain S.settles S.shows S.spans
@@ -442,7 +442,7 @@ impl<S: Viewed + Resuming + Troubled, D: DeadNodes + Drop> Troubled for NodeAnsw
     }
 }
 
-/// What is true of each answer that is explained.
+/// States what is true of each answer that is explained.
 pub fn explanations<S: WorldStorage>()
     // It begins with what is written without explanations, over the storage inside.
     ensures { (node : ℕ) (line : List ℕ) (old new : TracedOver S) (c : declared-command.Command) (text : List ℕ)

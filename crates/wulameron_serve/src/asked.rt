@@ -1,4 +1,4 @@
-//! How a node is asked.
+//! Asks a node.
 
 ghost use Rattle.std.specs.Prelude.{◌≡◌, OnOk, [], string_bytes};
 ghost use Rattle.escaped_serve.specs.Questions.{AnswersQuestion, IsNoPlain};
@@ -24,7 +24,7 @@ use std::alloc::AllocError;
 use wulameron_place::trouble::Troubled;
 
 impl<S: Viewed + Resuming + Troubled, D: SharedNodes + Drop> NodeAnswerer<S, D> {
-    /// Answers a question, without what stands before and behind each answer.
+    /// Answers a question, without what is written before and after each answer.
     fn ask_alone(&mut self, question: &Question, text: &mut String) -> Result<(), AllocError>
         requires { IsNoPlain question.now }
         ensures node { self.new.node ≡ self.old.node }
@@ -42,7 +42,7 @@ impl<S: Viewed + Resuming + Troubled, D: SharedNodes + Drop> NodeAnswerer<S, D> 
         }
     }
 
-    /// Gives back what dead nodes have, or the one that is named, and writes the reply.
+    /// Releases what dead nodes have, or what the named one has, and writes the reply.
     fn clean_for(&mut self, named: Option<u64>, text: &mut String) -> Result<(), AllocError>
         ensures node { self.new.node ≡ self.old.node }
         ensures answered { OnOk result (GrowsBy (λ output. CleansAsked S.shows S.world S.trouble named
@@ -67,7 +67,7 @@ impl<S: Viewed + Resuming + Troubled, D: SharedNodes + Drop> NodeAnswerer<S, D> 
     }
 }
 
-/// What others did is shown first, and what the node owes of earlier commands is given back.
+/// It first takes over what others did, and releases what the node owes of earlier commands.
 impl<S: Viewed + Resuming + Troubled, D: SharedNodes + Drop> Asked for NodeAnswerer<S, D> {
     ghost answers_escaped = { λ old line c text new. (new.node ≡ old.node) × AnswersWith written.Escaped S.settles
         S.shows S.spans S.step S.world (writes_in written.Escaped S.writes) old.node line [] (own_state old.session) c

@@ -1,4 +1,4 @@
-//! The questions by which it is cleaned up for dead nodes.
+//! Questions by which a node cleans up for dead nodes.
 
 ghost use Rattle.std.specs.Prelude.{◌≡◌, ◌++◌, ℕ, Option, IfSome, OnOk, string_bytes};
 ghost use Rattle.iceoryx2_session.specs.SessionStates.{own_state};
@@ -24,15 +24,15 @@ use wulameron_place::rehearsal::rehearse;
 use wulameron_place::texts::gave_nothing;
 use wulameron_place::trouble::{Trouble, Troubled};
 
-/// What is told where a node's file refused, and not the log.
+/// What is told if a node's file refused, and not the log.
 const FILE_REFUSED: &str = "a dead node's file can't be locked; see the rights of the log's folder";
 
-/// What is told where the world of a rehearsal can't be had.
+/// What is told if the world of a rehearsal can't be had.
 const NOT_WHOLE: &str = "the log can't be read to its end; run `wulameron check`";
 
-// ---- what was given back
+// ---- what was released
 
-/// What was given back, and of how many nodes.
+/// What was released, and of how many nodes.
 #[derive(Clone, Copy)]
 pub struct Given {
     pub nodes: u64,
@@ -51,7 +51,7 @@ impl Given {
         }
     }
 
-    /// With what a node gave back, which counts where that is something.
+    /// Adds what a node released. The node counts if that is something.
     fn with(self, cleaned: Cleaned) -> Given
         ensures { result ≡ with_given self cleaned }
     {
@@ -66,7 +66,7 @@ impl Given {
     }
 }
 
-/// Writes what was given back.
+/// Writes what was released.
 fn reply_given(given: Given, text: &mut String) -> Result<(), AllocError>
     ensures { OnOk result (string_bytes text.new ≡ string_bytes text.old ++ given_line given) }
 {
@@ -99,9 +99,9 @@ fn reply_unfound(why: &Unfound, text: &mut String) -> Result<(), AllocError>
     }
 }
 
-// ---- what they have is given back
+// ---- what they have is released
 
-/// What became of a dead node for which it was cleaned up so.
+/// What became of a dead node after it was cleaned up for with this result.
 fn found_by(cleaned: Result<Cleaned, CleanError>) -> Found
     ensures { IsFoundBy cleaned result }
 {
@@ -111,7 +111,7 @@ fn found_by(cleaned: Result<Cleaned, CleanError>) -> Found
     }
 }
 
-/// Gives back what a node has, where it is dead still.
+/// Releases what a node has, if it is still dead.
 fn clean_node<S: WorldStorage, D: DeadNodes>(session: &mut Session<S>, dead: &D, node: u64) -> Found
     ensures { CleansOne S.shows S.world (own_state session.old) (node, result) (own_state session.new) }
 {
@@ -130,14 +130,14 @@ fn clean_node<S: WorldStorage, D: DeadNodes>(session: &mut Session<S>, dead: &D,
 #[derive(Clone, Copy)]
 pub struct Outcome {
     pub given: Given,
-    /// One at least is alive.
+    /// At least one is alive.
     pub some_alive: bool,
-    /// The log or a node's file refused for one at least.
+    /// The log or a node's file refused for at least one.
     pub some_refused: bool,
 }
 
 impl Outcome {
-    /// Of no node.
+    /// The outcome of no node.
     fn of_none() -> Outcome
         ensures { result ≡ outcome_of_none }
     {
@@ -148,7 +148,7 @@ impl Outcome {
         }
     }
 
-    /// With what became of one more.
+    /// Adds what became of one more node.
     fn with(self, found: Found) -> Outcome
         ensures { result ≡ outcome_with self found }
     {
@@ -169,7 +169,7 @@ impl Outcome {
     }
 }
 
-/// Gives back what these nodes have, as far as they are dead.
+/// Releases what these nodes have, as far as they are dead.
 fn clean_nodes<S: WorldStorage, D: DeadNodes>(
     session: &mut Session<S>,
     dead: &D,
@@ -186,7 +186,7 @@ fn clean_nodes<S: WorldStorage, D: DeadNodes>(
     outcome
 }
 
-/// Writes that the log refused for this reason, or else a node's file.
+/// Writes that the log refused for this reason, or a node's file if there is none.
 fn reply_refused(trouble: Option<Trouble>, text: &mut String) -> Result<(), AllocError>
     ensures { OnOk result (GrowsBy (IsRefusalBy trouble) (string_bytes text.old) (string_bytes text.new)) }
 {
@@ -196,7 +196,7 @@ fn reply_refused(trouble: Option<Trouble>, text: &mut String) -> Result<(), Allo
     }
 }
 
-/// Writes what became of the nodes, or of the one that was named.
+/// Writes what became of the nodes, or of the named one.
 fn reply_outcome(
     trouble: Option<Trouble>,
     named: Option<u64>,
@@ -221,9 +221,9 @@ fn reply_outcome(
     }
 }
 
-/// Gives back what dead nodes have, or the one that is named, and writes the reply.
+/// Releases what dead nodes have, or what the named one has, and writes the reply.
 ///
-/// `AllocError` where there is no memory for the reply. The text may then have a part of it.
+/// `AllocError` if there is no memory for the reply. The text may then have a part of it.
 pub fn answer_clean<S: WorldStorage + Troubled, D: SharedNodes>(
     session: &mut Session<S>,
     dead: &D,
@@ -244,9 +244,9 @@ pub fn answer_clean<S: WorldStorage + Troubled, D: SharedNodes>(
     }
 }
 
-// ---- what they have would be given back
+// ---- what would be released
 
-/// What cleaning up for these nodes would give back in this world. `None` where the world refuses a step.
+/// Returns what cleaning up for these nodes would release in this world. `None` if the world refuses a step.
 fn rehearse_all(world: &mut StoredWorld, nodes: &[u64]) -> Option<Given>
     ensures { IfSome result (λ given. RehearsesSum nodes.now world.old given world.new) }
 {
@@ -260,7 +260,7 @@ fn rehearse_all(world: &mut StoredWorld, nodes: &[u64]) -> Option<Given>
     Some(given)
 }
 
-/// Writes what cleaning up for these nodes would give back, which are wanted.
+/// Writes what cleaning up for these nodes would release.
 fn rehearse_found<D: SharedNodes>(
     dead: &D,
     nodes: &[u64],
@@ -278,7 +278,7 @@ fn rehearse_found<D: SharedNodes>(
     }
 }
 
-/// Writes that something can't be given back.
+/// Writes that something can't be released.
 fn reply_stays(text: &mut String) -> Result<(), AllocError>
     ensures { OnOk result (string_bytes text.new ≡ string_bytes text.old ++ refused_line stays_why) }
 {
@@ -286,9 +286,9 @@ fn reply_stays(text: &mut String) -> Result<(), AllocError>
     refuse_by_log(&why, text)
 }
 
-/// Writes what cleaning up for dead nodes, or the one that is named, would give back. Nothing is.
+/// Writes what cleaning up for dead nodes, or for the named one, would release. It releases nothing.
 ///
-/// `AllocError` where there is no memory for the reply. The text may then have a part of it.
+/// `AllocError` if there is no memory for the reply. The text may then have a part of it.
 pub fn answer_rehearse<D: SharedNodes>(
     dead: &D,
     named: Option<u64>,

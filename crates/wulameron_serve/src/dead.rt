@@ -1,4 +1,4 @@
-//! Which refusals may come of dead nodes, and what is done about it.
+//! Tells which refusals dead nodes may have caused, and what is done then.
 
 ghost use Rattle.std.specs.Prelude.{◌≡◌};
 ghost use Rattle.iceoryx2_session.specs.SessionStates.{own_state};
@@ -12,7 +12,7 @@ use iceoryx2_session::world_storage::WorldStorage;
 use std::alloc::Global;
 use wulameron_place::dead::DeadNodes;
 
-/// Whether a call is refused, and a dead node may be why.
+/// Returns whether a call is refused and a dead node may be the cause.
 pub fn is_blocked(reply: &Reply) -> bool
     ensures { result ≡ is_blocked_spec reply.now }
 {
@@ -22,7 +22,7 @@ pub fn is_blocked(reply: &Reply) -> bool
     }
 }
 
-/// Whether anything was given back.
+/// Returns whether anything was released.
 fn gave(cleaned: Result<Cleaned, CleanError>) -> bool {
     match cleaned {
         Ok(cleaned) => cleaned.releases > 0 || cleaned.removals > 0,
@@ -30,7 +30,7 @@ fn gave(cleaned: Result<Cleaned, CleanError>) -> bool {
     }
 }
 
-/// Gives back what a node has, if it is dead. True where anything was given back.
+/// Releases what a node has, if it is dead. Returns whether anything was released.
 fn clean_one<S: WorldStorage, D: DeadNodes>(session: &mut Session<S>, dead: &D, node: u64) -> bool
     ensures { SpansSession S.shows (own_state session.old) (own_state session.new) }
 {
@@ -42,7 +42,7 @@ fn clean_one<S: WorldStorage, D: DeadNodes>(session: &mut Session<S>, dead: &D, 
     gave(cleaned)
 }
 
-/// Gives back what dead nodes have. True where anything was given back.
+/// Releases what dead nodes have. Returns whether anything was released.
 pub fn clean_dead<S: WorldStorage, D: DeadNodes>(
     alloc: Global,
     session: &mut Session<S>,

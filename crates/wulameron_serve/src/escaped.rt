@@ -1,4 +1,4 @@
-//! The whole program where its lines are escaped: an input in, its answers out, over the log of a place.
+//! The whole program for escaped lines: an input, and its answers, over the log of a place.
 
 ghost use Rattle.std.specs.Prelude.{◌≡◌, ℕ, List, OnErr, OnOk, Ok, Some};
 ghost use Rattle.iceoryx2_session.specs.SessionStates.{own_state};
@@ -40,15 +40,15 @@ use wulameron_place::opening::opened;
 use wulameron_place::reports::Reports;
 use wulameron_place::trouble::{Refusing, Trouble, Troubled};
 
-/// What is told where there is no memory for more.
+/// What is told if memory runs out.
 const NO_MEMORY: &str = "out of memory\n";
 
-/// Answers the lines of an input, whose leaves are escaped, and its questions, over the log of a place, which is made
-/// where there is none. The node is claimed as long. The first line that is written answers nothing: it tells the node,
-/// or why there is none. What the slots hold is closed at the end.
+/// Answers the escaped lines and the questions of an input over the log of a place, and makes the log if there is none.
+/// It claims the node as long. The first line that it writes answers nothing: it tells the node, or why there is none.
+/// At the end it closes what the slots hold.
 ///
-/// Gives the status with which the program ends: 0 at the end of the input; or 3 where it didn't begin, reading or
-/// writing failed, the log can't be used any more, or something of the node stays.
+/// Returns the status with which the program ends: 0 at the end of the input. The status is 3 if it didn't begin, if
+/// reading or writing failed, if the log can't be used any more, or if something of the node stays.
 pub fn run_escaped<
     F: Files<File = File> + Clock + RandomSource + AllocGlobal + Drop,
     R: Read + Drop,
@@ -68,7 +68,7 @@ pub fn run_escaped<
     }
 }
 
-/// Writes a line by which the program ends, or that there was no memory for it, and gives the status.
+/// Writes a line by which the program ends, or that there was no memory for it, and returns the status.
 fn end_with<W: Write>(told: Result<(), AllocError>, line: &str, output: &mut W) -> u8
     ensures status { result ≡ 3 }
     ensures told { IsTaken (told_or_no_memory told line.now) (W.contents output.old) (W.contents output.new) }
@@ -85,7 +85,7 @@ fn end_with<W: Write>(told: Result<(), AllocError>, line: &str, output: &mut W) 
     }
 }
 
-/// Writes why the log can't be used, and gives the status.
+/// Writes why the log can't be used, and returns the status.
 pub fn refuse_log<W: Write>(alloc: Global, trouble: Trouble, output: &mut W) -> u8
     ensures status { result ≡ 3 }
     ensures told { (text : List ℕ) × IsStartReply (halt.Log trouble) text
@@ -96,7 +96,7 @@ pub fn refuse_log<W: Write>(alloc: Global, trouble: Trouble, output: &mut W) -> 
     end_with(told, &text, output)
 }
 
-/// Writes what is wrong with the log's folder, which has this path, and gives the status.
+/// Writes what is wrong with the log's folder, which has this path, and returns the status.
 pub fn refuse_folder<X: fmt::Display + Copy, W: Write>(
     alloc: Global,
     path: &str,
@@ -108,7 +108,7 @@ pub fn refuse_folder<X: fmt::Display + Copy, W: Write>(
     end_with(told, &text, output)
 }
 
-/// The same for a node that is claimed.
+/// Does the same for a node that is claimed.
 fn run_as<F: Files<File = File> + Clock + RandomSource + AllocGlobal, R: Read + Drop, W: Write>(
     rt: &F,
     node: u64,
@@ -130,7 +130,7 @@ fn run_as<F: Files<File = File> + Clock + RandomSource + AllocGlobal, R: Read + 
     }
 }
 
-/// Writes why a node isn't started, and gives the status.
+/// Writes why a node isn't started, and returns the status.
 fn refuse_start<W: Write>(alloc: Global, halt: Halt, output: &mut W) -> u8
     ensures status { result ≡ 3 }
     ensures told { (text : List ℕ) × IsStartReply halt text
@@ -142,7 +142,7 @@ fn refuse_start<W: Write>(alloc: Global, halt: Halt, output: &mut W) -> u8
     }
 }
 
-/// The same over a log that is open. Nothing is told but on the output.
+/// Does the same over a log that is open. It tells everything on the output.
 fn start_and_greet<
     L: Refusing + Renewing + SpansCalls + Drop,
     D: SharedNodes + Drop,
@@ -166,7 +166,7 @@ fn start_and_greet<
 
 /// Writes the greeting of a node.
 ///
-/// `ServeError` as `write_out` does, and where there is no memory for it, which is written.
+/// `ServeError` as `write_out` does, and if there is no memory for the greeting, which is written.
 fn greet<W: Write>(alloc: Global, node: u64, output: &mut W) -> Result<(), ServeError>
     ensures greeted { OnOk result
         (Writes (greeting_of node) (Ok tt) (W.contents output.old) (W.contents output.new)) }
@@ -181,7 +181,7 @@ fn greet<W: Write>(alloc: Global, node: u64, output: &mut W) -> Result<(), Serve
     }
 }
 
-/// Greets, answers each line, closes what is open, and gives back what the node has still.
+/// Greets, answers each line, closes what is open, and releases what the node still has.
 fn greet_and_answer<
     S: Viewed + Resuming + Troubled + Drop,
     D: SharedNodes + Drop,
@@ -203,7 +203,7 @@ fn greet_and_answer<
     }
 }
 
-/// The same without the greeting.
+/// Does the same without the greeting.
 fn answer_greeted<
     S: Viewed + Resuming + Troubled + Drop,
     D: SharedNodes + Drop,
@@ -223,7 +223,8 @@ fn answer_greeted<
     report_end(ended, &mut no_lines)
 }
 
-/// Answers each escaped line of an input, and closes all that is open then, whatever ended it. Gives the storage back.
+/// Answers each escaped line of an input, and then closes all that is open, whatever ended the input. Returns the
+/// storage.
 pub fn answer_escaped_input<
     S: Viewed + Resuming + Troubled,
     D: SharedNodes + Drop,

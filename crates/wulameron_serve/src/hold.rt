@@ -1,4 +1,4 @@
-//! The command that makes one call over the log of a place, and holds what it gives.
+//! Makes one call over the log of a place, and holds its factory.
 
 ghost use Rattle.std.specs.Prelude.{◌≡◌};
 ghost use Rattle.wulameron_serve.specs.Holding.{end_status};
@@ -41,10 +41,12 @@ use wulameron_view::viewing::report_look;
 
 const NOT_MADE: &str = "no call was made; start the program again";
 
-/// Makes a call over the log of a place, which is made where there is none, prints what was agreed, and holds the factory
-/// until the input ends. The node is claimed as long. Gives the status with which the program ends: 0; 1 where the call
-/// is refused; 2 where the words are no call, and then nothing is claimed or made; or 3 after a failure. The writer of
-/// errors has a line of these, and of a refusal behind it what the call required and what the service offers.
+/// Makes a call over the log of a place, prints what was agreed, and holds the factory until the input ends. It makes
+/// the log if there is none, and claims the node as long.
+///
+/// Returns the status with which the program ends: 0; 1 if the call is refused; 2 if the words are no call, and then
+/// nothing is claimed or made; or 3 after a failure. With 1, 2 or 3 the writer of errors has a line. After a refusal's
+/// line it has what the call required and what the service offers.
 pub fn hold<
     F: Files<File = File> + Clock + RandomSource + AllocGlobal + Drop,
     R: Read + Drop,
@@ -63,7 +65,7 @@ pub fn hold<
     status
 }
 
-/// The status of a program that had no memory, of which the writer of errors has a line.
+/// Returns the status of a program that had no memory. The writer of errors has its line.
 fn no_memory<E: Write>(errors: &mut E) -> u8
     ensures { result ≡ 3 }
 {
@@ -71,7 +73,7 @@ fn no_memory<E: Write>(errors: &mut E) -> u8
     FAULT
 }
 
-/// The status where the words are no call, or there is no memory, of which the writer of errors has a line.
+/// Returns the status if the words are no call, or there is no memory. The writer of errors has its line.
 fn refuse_words<E: Write>(alloc: Global, hold: &Hold<'_>, errors: &mut E) -> Option<u8> {
     let Ok(line) = call_line(alloc, 0, hold) else {
         return Some(no_memory(errors));
@@ -98,7 +100,7 @@ fn report_words<E: Write>(
     }
 }
 
-/// The line of what is wrong with the words of a call, which are told as they were given.
+/// Returns the line of what is wrong with the words of a call, which are told as they were given.
 fn words_line(alloc: Global, wrong: LineError<'_>) -> Result<String, AllocError> {
     let (first, second) = terms_in(wrong);
     let first = given(alloc, first)?;
@@ -108,7 +110,7 @@ fn words_line(alloc: Global, wrong: LineError<'_>) -> Result<String, AllocError>
     format!(in alloc; "wulameron: {told}{hint}\n")
 }
 
-/// What is told besides of a word that is wrong.
+/// Returns what else is told of a word that is wrong.
 fn hint(wrong: LineError<'_>) -> &'static str {
     match wrong {
         LineError::Value(_, _, Kind::Type) => {
@@ -118,7 +120,7 @@ fn hint(wrong: LineError<'_>) -> &'static str {
     }
 }
 
-/// A word of a call, or a part of one, as it was given.
+/// Returns a word of a call, or a part of one, as it was given.
 fn given<'a>(alloc: Global, term: &'a str) -> Result<CowStr<'a>, AllocError> {
     if term == "%" {
         return Ok(CowStr::Borrowed(""));
@@ -130,7 +132,7 @@ fn given<'a>(alloc: Global, term: &'a str) -> Result<CowStr<'a>, AllocError> {
     }
 }
 
-/// The words, or parts of them, of which something is wrong: at most two.
+/// Returns the words, or parts of them, that are wrong: at most two.
 fn terms_in<'a>(wrong: LineError<'a>) -> (&'a str, &'a str) {
     match wrong {
         LineError::NameLength(term)
@@ -152,7 +154,7 @@ fn terms_in<'a>(wrong: LineError<'a>) -> (&'a str, &'a str) {
     }
 }
 
-/// The same of these words in place of its own.
+/// Replaces the words of an error by these.
 fn with_terms<'a>(wrong: LineError<'a>, first: &'a str, second: &'a str) -> LineError<'a> {
     match wrong {
         LineError::NameLength(_) => LineError::NameLength(first),
@@ -179,7 +181,7 @@ fn with_terms<'a>(wrong: LineError<'a>, first: &'a str, second: &'a str) -> Line
     }
 }
 
-/// The call of these words for a node. They are a call, so where there is none there is no memory.
+/// Returns the call of these words for a node. They are a call, so `None` means that there is no memory.
 fn held_call(alloc: Global, node: u64, hold: &Hold<'_>) -> Option<Call> {
     match call_line(alloc, node, hold) {
         Ok(line) => call_of(alloc, Form::Escaped, line.as_bytes(), node),
@@ -187,8 +189,8 @@ fn held_call(alloc: Global, node: u64, hold: &Hold<'_>) -> Option<Call> {
     }
 }
 
-/// Makes the call for a node that is claimed, and holds its factory until the input ends. Before the call what dead
-/// nodes have is given back.
+/// Makes the call for a node that is claimed, and holds its factory until the input ends. Before the call it releases
+/// what dead nodes have.
 fn hold_as<
     F: Files<File = File> + Clock + RandomSource + AllocGlobal,
     R: Read + Drop,
@@ -261,7 +263,7 @@ fn hold_over<
     close_held(answerer, node, ended, reports)
 }
 
-/// How a hold ended, and of a call that is refused what it found.
+/// How a hold ended, and what a refused call found.
 struct Ended {
     held: Result<(), HoldError>,
     offer: Option<Offer>,
@@ -286,8 +288,8 @@ fn hold_wanted<L: SpansCalls, R: Read, W: Write>(
     Ended { held, offer }
 }
 
-/// The call of a node that is refused, and the service that it found. `None` where it isn't refused, where no such service
-/// is published, and where there is no memory.
+/// Returns the call of a node that is refused, and the service that it found. `None` if the call isn't refused, if no
+/// such service is published, or if there is no memory.
 fn offer_if_refused<S: WorldStorage>(
     alloc: Global,
     held: Result<(), HoldError>,
@@ -305,8 +307,8 @@ fn offer_if_refused<S: WorldStorage>(
     }
 }
 
-/// Closes what is held still, in another session of the database where the one before has ended, gives back what the
-/// node has besides, and gives the status.
+/// Closes what is still held, releases what else the node has, and returns the status. If the database's session has
+/// ended, it does so in another one.
 fn close_held<S: Viewed + Resuming + Troubled + Drop, D: DeadNodes + Drop, E: Write>(
     answerer: NodeAnswerer<S, D>,
     node: u64,
@@ -327,7 +329,7 @@ fn close_held<S: Viewed + Resuming + Troubled + Drop, D: DeadNodes + Drop, E: Wr
     status
 }
 
-/// Tells what kept a hold from its end, and that something of the node stays, and gives the status.
+/// Tells what kept a hold from its end, and that something of the node stays, and returns the status.
 fn end_hold<E: Write>(
     trouble: Option<Trouble>,
     ended: Ended,
@@ -350,7 +352,7 @@ fn end_hold<E: Write>(
     }
 }
 
-/// Writes why a hold ended. That a factory wasn't closed is told at the end, where it stays.
+/// Writes why a hold ended. If a factory that wasn't closed stays, the end tells it.
 fn report_hold<E: Write>(
     trouble: Option<Trouble>,
     why: HoldError,

@@ -1,4 +1,4 @@
-//! One call, whose factory is held until an input ends.
+//! Makes one call, whose factory is held until an input ends.
 
 ghost use Rattle.std.specs.Prelude.{◌≡◌, IfOk, string_bytes};
 ghost use Rattle.iceoryx2_journal.specs.Journal.{IsAccessOver, Spans};
@@ -18,22 +18,22 @@ use std::io::{ErrorKind, Read, Write};
 use wulameron_arguments::asked::{Hold, PLAIN, Wanted};
 use wulameron_view::looking::{LookError, REFUSED, print, show_in};
 
-/// Why a call isn't held until the input ends, or not given back then.
+/// Why a call isn't held until the input ends, or isn't released then.
 #[derive(Clone, Copy)]
 pub enum HoldError {
-    /// It is refused.
+    /// The call is refused.
     Refused(Refusal),
-    /// No call was made: its slot is in use, or there is none.
+    /// No call was made: its slot is in use, or there is no such slot.
     NotMade,
-    /// What was agreed isn't printed. The factory is given back.
+    /// What was agreed isn't printed. The factory is released.
     Unshown(LookError),
-    /// The input refused. The factory is given back.
+    /// The input refused. The factory is released.
     Reading(ServeError),
     /// The log didn't release the factory.
     NotClosed,
 }
 
-/// The status with which a hold ends: 0, 1 where the call is refused, and else 3.
+/// Returns the status with which a hold ends: 0, 1 if the call is refused, and 3 otherwise.
 pub fn status_of_hold(held: Result<(), HoldError>) -> u8
     ensures { result ≡ hold_status held }
 {
@@ -44,7 +44,7 @@ pub fn status_of_hold(held: Result<(), HoldError>) -> u8
     }
 }
 
-/// The escaped line of a call of this node for the slot 0. `AllocError` where there is no memory.
+/// Returns the escaped line of a call of this node for slot 0. `AllocError` if there is no memory.
 pub fn call_line(alloc: Global, node: u64, hold: &Hold<'_>) -> Result<String, AllocError>
     ensures { IfOk result (λ line. string_bytes line ≡ call_line_of node hold.now) }
 {
@@ -56,7 +56,7 @@ pub fn call_line(alloc: Global, node: u64, hold: &Hold<'_>) -> Result<String, Al
     Ok(line)
 }
 
-/// Reads an input to its end, and keeps nothing of it. `ServeError` where it refuses.
+/// Reads an input to its end, and keeps nothing of it. `ServeError` if the input refuses.
 fn wait_for_end<R: Read>(input: &mut R) -> Result<(), ServeError> {
     let mut piece = [0u8; 512];
     for _ in 0..u64::MAX {
@@ -73,7 +73,7 @@ fn wait_for_end<R: Read>(input: &mut R) -> Result<(), ServeError> {
     Err(ServeError::Reading)
 }
 
-/// Waits for the end of the input where what was agreed is printed.
+/// Waits for the end of the input if what was agreed is printed.
 fn wait<R: Read>(shown: Result<(), LookError>, input: &mut R) -> Result<(), ServeError> {
     match shown {
         Ok(()) => wait_for_end(input),
@@ -81,7 +81,7 @@ fn wait<R: Read>(shown: Result<(), LookError>, input: &mut R) -> Result<(), Serv
     }
 }
 
-/// How a hold ends whose factory is given back so.
+/// Returns how a hold ends after its factory was released with this result.
 fn ending(
     shown: Result<(), LookError>,
     waited: Result<(), ServeError>,
@@ -101,7 +101,7 @@ fn ending(
     }
 }
 
-/// A factory that a call gave.
+/// A factory that a call returned.
 #[derive(Clone, Copy)]
 struct Factory {
     slot: usize,
@@ -137,7 +137,7 @@ fn hold_made<L: SpansCalls, R: Read, W: Write>(
     ending(shown, waited, &closed)
 }
 
-/// The factory that a call gave, or why there is none.
+/// Returns the factory that a call returned, or why there is none.
 fn factory_of(reply: Reply) -> Result<Factory, HoldError>
     ensures { IsFactoryOf reply result }
 {
@@ -148,10 +148,10 @@ fn factory_of(reply: Reply) -> Result<Factory, HoldError>
     }
 }
 
-/// Makes a call, prints what was agreed, and holds the factory until the input ends. Then it is closed.
+/// Makes a call, prints what was agreed, and holds the factory until the input ends. Then it closes the factory.
 ///
-/// `Refused` and `NotMade` where there is no factory, and nothing is printed; `Unshown` and `Reading` where the output or
-/// the input refuses, and it is closed; `NotClosed` where the log doesn't release it.
+/// `Refused` and `NotMade` if there is no factory: nothing is printed. `Unshown` and `Reading` if the output or the
+/// input refuses: the factory is closed. `NotClosed` if the log doesn't release it.
 pub fn hold_call<L: SpansCalls, R: Read, W: Write>(
     alloc: Global,
     session: &mut Session<Journal<L>>,

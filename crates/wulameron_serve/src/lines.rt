@@ -1,4 +1,4 @@
-//! Lines in, answers out, as long as the log can be used.
+//! Answers lines as long as the log can be used.
 
 ghost use Rattle.std.specs.Prelude.{◌≡◌, ℕ, List, Some, IfOk};
 ghost use Rattle.negotiate_serve.specs.Served.{AnswersAll, ServesLines};
@@ -14,8 +14,8 @@ use wulameron_place::halt::Halt;
 use wulameron_place::reports::Reports;
 use wulameron_place::trouble::Troubled;
 
-/// Answers each line of an input as such lines are, until it ends as in `serve_by`, or the log can't be used any more.
-/// It writes these answers and nothing else, and tells what goes wrong at the log, after the line at which it does.
+/// Answers each line of an input until the input ends as in `serve_by`, or the log can't be used any more. It writes
+/// these answers and nothing else. After a line at which something goes wrong at the log, it tells that.
 pub fn answer_until<A: Troubled, L: Lines<A>, R: Read + Drop, W: Write, E: Write>(
     input: R,
     output: &mut W,

@@ -21,16 +21,16 @@ use wulameron_place::dead::{DeadNodes, PlaceNodes};
 use wulameron_place::opening::open_view;
 use wulameron_place::reports::Reports;
 
-/// Who finds all nodes of a log, and what the log comes to.
+/// Finds all nodes of a log, and what the log comes to.
 pub trait SharedNodes: DeadNodes {
-    /// Each node that was claimed at some time, by rising number, and whether it is alive.
+    /// Returns each node that was ever claimed, by rising number, and whether it is alive.
     fn statuses(&self) -> Result<Vec<NodeStatus>, NodeError>;
 
-    /// The dead ones, or the one that is named where it is dead.
+    /// Returns the dead nodes, or the named one if it is dead.
     fn wanted(&self, named: Option<u64>) -> Result<Vec<u64>, Unfound>
         ensures { IfOk result (λ nodes. AreWanted named nodes.items) };
 
-    /// The world that the log comes to, apart from the one that a session has. `None` where not all of the log can be
+    /// Returns the world that the log comes to, apart from the world of a session. `None` if not all of the log can be
     /// taken over.
     fn world(&self, alloc: Global) -> Option<StoredWorld>;
 }
@@ -53,7 +53,7 @@ impl<'a, F: Files<File = File> + Clock + RandomSource + AllocGlobal> SharedNodes
     }
 }
 
-/// Whether a node is alive, in a word.
+/// Returns the word for whether a node is alive.
 fn state_word(state: NodeState) -> &'static str
     ensures { result.now ≡ state_word state }
 {
@@ -93,7 +93,7 @@ fn reply_nodes(nodes: &[NodeStatus], text: &mut String) -> Result<(), AllocError
 
 /// Writes the reply to the question which nodes there are: each with its state, or why they can't be had.
 ///
-/// `AllocError` where there is no memory. The text may then have a part of the reply.
+/// `AllocError` if there is no memory. The text may then have a part of the reply.
 pub fn answer_nodes<D: SharedNodes>(dead: &D, text: &mut String) -> Result<(), AllocError>
     ensures { OnOk result (GrowsBy IsNodesReply (string_bytes text.old) (string_bytes text.new)) }
 {

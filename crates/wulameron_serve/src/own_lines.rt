@@ -1,4 +1,4 @@
-//! How lines are answered in which `-` stands for the program's own node.
+//! Answers lines in which `-` is the program's own node.
 
 ghost use Rattle.std.specs.Prelude.{◌≡◌, ◌++◌, ℕ, List, IfOk, IsTrue, MatchOption, decimal};
 ghost use Rattle.wulameron_serve.specs.Own.{AnswersNamed, EndsTerm, IsBehindSpaces, IsBehindWord, IsFromThird};
@@ -9,18 +9,18 @@ use negotiate_serve::lines::Lines;
 use std::alloc::{AllocError, Global};
 use wulameron_place::halt::Halt;
 
-/// What answers lines in the name of a node.
+/// Answers lines in the name of a node.
 pub trait OfNode {
     /// The node.
     ghost own_node: { Self → ℕ };
 
-    /// The node.
+    /// Returns the node.
     fn own_node(&self) -> u64
         ensures { result ≡ own_node self.now };
 }
 
-/// Lines that are answered so. Where the third term of one is `-`, it is answered as the line is that has the number of
-/// the answerer's node there. Memory is asked for only for such a line.
+/// Answers a line whose third term is `-` as the line that has the number of the answerer's node there. It asks for
+/// memory for such a line alone.
 #[derive(Clone, Copy)]
 pub struct OwnLines<I> {
     pub lines: I,
@@ -50,7 +50,7 @@ impl<A: OfNode, I: Lines<A>> Lines<A> for OwnLines<I> {
     }
 }
 
-/// A text without the spaces at its front.
+/// Returns a text without the spaces at its beginning.
 fn behind_spaces(text: &[u8]) -> &[u8]
     ensures { IsBehindSpaces text.now result.now }
 {
@@ -64,7 +64,7 @@ fn behind_spaces(text: &[u8]) -> &[u8]
     rest
 }
 
-/// A text without what stands before its first space.
+/// Returns a text without what precedes its first space.
 fn behind_word(text: &[u8]) -> &[u8]
     ensures { IsBehindWord text.now result.now }
 {
@@ -78,7 +78,7 @@ fn behind_word(text: &[u8]) -> &[u8]
     rest
 }
 
-/// A line from its third term on.
+/// Returns a line from its third term on.
 fn from_third(line: &[u8]) -> &[u8]
     ensures { IsFromThird line.now result.now }
 {
@@ -86,7 +86,7 @@ fn from_third(line: &[u8]) -> &[u8]
     behind_spaces(behind_word(second))
 }
 
-/// Whether a term ends before this.
+/// Returns whether a term ends before this.
 fn ends_term(behind: &[u8]) -> bool
     ensures { (IsTrue result → EndsTerm behind.now) × (EndsTerm behind.now → IsTrue result) }
 {
@@ -96,7 +96,7 @@ fn ends_term(behind: &[u8]) -> bool
     }
 }
 
-/// What stands before the third term of a line, and what stands behind it, where that term is `-`.
+/// Returns what precedes the third term of a line, and what follows it, if that term is `-`.
 fn own_place(line: &[u8]) -> Option<(&[u8], &[u8])>
     ensures { MatchOption result ((before behind : List ℕ) → IsOwnAt line.now before behind → ⊥)
         (λ parts. IsOwnAt line.now parts.0.now parts.1.now) }
@@ -114,7 +114,7 @@ fn own_place(line: &[u8]) -> Option<(&[u8], &[u8])>
     Some((&line[..line.len() - third.len()], behind))
 }
 
-/// A line in which a node stands between these. `AllocError` where there is no memory for it.
+/// Returns a line in which a node stands between these two parts. `AllocError` if there is no memory for it.
 fn with_node(alloc: Global, before: &[u8], node: u64, behind: &[u8]) -> Result<Vec<u8>, AllocError>
     ensures { IfOk result (λ line. line.items ≡ before.now ++ (decimal node ++ behind.now)) }
 {
@@ -126,7 +126,8 @@ fn with_node(alloc: Global, before: &[u8], node: u64, behind: &[u8]) -> Result<V
     Ok(line)
 }
 
-/// Such a line with a node in it, or the line as it is, also where there is no memory for another.
+/// Returns such a line with a node in it. Any other line is returned as it is, and so is each line if there is no
+/// memory.
 fn named_or_kept(alloc: Global, node: u64, line: Vec<u8>) -> Vec<u8>
     ensures { IsNamedOrKept node line.items result.items }
 {
@@ -139,7 +140,7 @@ fn named_or_kept(alloc: Global, node: u64, line: Vec<u8>) -> Vec<u8>
     }
 }
 
-/// How lines of a node ended, with the line that ended them as it was answered, as far as there is memory.
+/// Returns how lines of a node ended, with the line that ended them as it was answered, as far as there is memory.
 pub(crate) fn told_end(
     alloc: Global,
     node: u64,

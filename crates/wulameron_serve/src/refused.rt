@@ -22,8 +22,8 @@ pub struct Offer {
     pub existing: StaticConfig,
 }
 
-/// The call with the service of its name and pattern that is published in the storage's world, or `None` where none is.
-/// `AllocError` where there is no memory for it.
+/// Returns the call with the service of its name and pattern that is published in the storage's world, or `None` if
+/// there is none. `AllocError` if there is no memory for it.
 pub fn offer_to<S: WorldStorage>(
     alloc: Global,
     call: Call,
@@ -37,7 +37,7 @@ pub fn offer_to<S: WorldStorage>(
     }
 }
 
-/// The description of the service of the call's name and pattern that is published in the storage's world.
+/// Returns the description of the service of the call's name and pattern that is published in the storage's world.
 fn existing_in<S: WorldStorage>(
     alloc: Global,
     call: &Call,
@@ -49,9 +49,9 @@ fn existing_in<S: WorldStorage>(
     service_of(alloc, &entries, call)
 }
 
-/// Writes the line of a refusal, with what can be done, and behind it what the call required and what the service offers, as
-/// `explain` has it: of the settings or attributes that the refusal names, and where it names types of each part of the
-/// messages.
+/// Writes the line of a refusal, with what can be done. After it, it writes what the call required and what the service
+/// offers, as `explain` does: of the settings or attributes that the refusal names, or of each part of the messages if
+/// it names types.
 ///
 /// `ServeError` as `Reports::tell` does.
 pub fn tell_refusal<E: Write>(
@@ -68,7 +68,7 @@ pub fn tell_refusal<E: Write>(
     }
 }
 
-/// The lines of a refusal, without the path of the log.
+/// Returns the lines of a refusal, without the path of the log.
 fn refusal_lines(
     alloc: Global,
     refusal: Refusal,
@@ -83,7 +83,7 @@ fn refusal_lines(
     Ok(lines)
 }
 
-/// Writes what the call required and what the service offers, where one was found.
+/// Writes what the call required and what the service offers, if one was found.
 fn write_offer(refusal: Refusal, offer: &Option<Offer>, text: &mut String) -> Result<(), AllocError>
     ensures { OnOk result (string_bytes text.new ≡ string_bytes text.old ++ offered_lines refusal offer.now) }
 {

@@ -68,8 +68,8 @@ const MATCH_RESPONSE: &str = "\
     ask for the service's response by `response_payload=..` and `response_header=..`, and for no \
     greater `response_payload_alignment=..`; other terms can't help";
 
-/// What can be done about a refusal. It is the text of its row in docs/REFUSALS.md, unless that names calls of the
-/// library, or a storage of it.
+/// Returns what can be done about a refusal. It is the text of its row in docs/REFUSALS.md, unless that text names
+/// calls or a storage of the library.
 pub fn remedy(refusal: Refusal) -> &'static str
     ensures { result.now ≡ remedy_of refusal }
 {
@@ -94,14 +94,14 @@ pub fn remedy(refusal: Refusal) -> &'static str
     }
 }
 
-/// One of two texts.
+/// Returns one of two texts.
 fn either(is_first: bool, first: &'static str, second: &'static str) -> &'static str
     ensures { result.now ≡ (if is_first then first.now else second.now) }
 {
     if is_first { first } else { second }
 }
 
-/// Whether an open of its own refused, and no open or create.
+/// Returns whether an open refused that is no part of an open or create.
 fn is_open(refusal: Refusal) -> bool
     ensures { result ≡ is_open_of refusal }
 {
@@ -113,7 +113,7 @@ fn is_open(refusal: Refusal) -> bool
     }
 }
 
-/// Whether the create of an event refused, which asks the clock for a deadline.
+/// Returns whether the create of an event refused, which asks the clock for a deadline.
 fn asks_clock(refusal: Refusal) -> bool
     ensures { result ≡ asks_clock_of refusal }
 {
@@ -124,7 +124,7 @@ fn asks_clock(refusal: Refusal) -> bool
     }
 }
 
-/// Whether the create of an open or create refused.
+/// Returns whether the create of an open or create refused.
 fn is_of_create(error: EventOpenOrCreateError) -> bool
     ensures { result ≡ is_of_create_of error }
 {

@@ -1,4 +1,4 @@
-//! The whole program: an input in, its answers out, over the log of a place.
+//! The whole program: an input, and its answers, over the log of a place.
 
 ghost use Rattle.std.specs.Prelude.{◌≡◌, ℕ, List, Some};
 ghost use Rattle.iceoryx2_session.specs.SessionStates.{own_state};
@@ -29,9 +29,11 @@ use wulameron_place::opening::{claim, open};
 use wulameron_place::reports::Reports;
 use wulameron_place::trouble::{Refusing, Troubled};
 
-/// Answers the lines of an input over the log of a place, which is made where there is none, and gives the status with
-/// which the program ends: 0 at the end of the input, 2 after a line that ends a strict run, and 3 after a failure, of
-/// which the writer of errors has a line. The node is claimed as long as it runs.
+/// Answers the lines of an input over the log of a place, and makes the log if there is none. It claims the node as
+/// long as it runs.
+///
+/// Returns the status with which the program ends: 0 at the end of the input, 2 after a line that ends a strict run,
+/// and 3 after a failure, of which the writer of errors has a line.
 pub fn run<
     F: Files<File = File> + Clock + RandomSource + AllocGlobal + Drop,
     R: Read + Drop,
@@ -78,8 +80,8 @@ fn tell_node<E: Write>(node: u64, reports: &mut Reports<'_, E>) -> Result<(), Se
     }
 }
 
-/// What becomes of lines that are neither blank nor a command, by whether the first of them ends the program, and else
-/// by whether each reply is explained.
+/// Returns what becomes of lines that are neither blank nor a command. `strict`: the first of them ends the program.
+/// `explains`: an empty line follows each reply.
 fn wrong_lines_of(strict: bool, explains: bool) -> WrongLines
     ensures { result ≡ wrong_lines_of strict explains }
 {
@@ -92,7 +94,7 @@ fn wrong_lines_of(strict: bool, explains: bool) -> WrongLines
     WrongLines::Reply
 }
 
-/// Tells the failure or what is wrong with a line, and gives the status. Of a log that can't be used any more the line
+/// Tells the failure or what is wrong with a line, and returns the status. If the log can't be used any more, the line
 /// was written before.
 pub(crate) fn report_end<E: Write>(ended: Result<Ending, Halt>, reports: &mut Reports<'_, E>) -> u8
     ensures { result ≡ status_with ended }
@@ -107,8 +109,9 @@ pub(crate) fn report_end<E: Write>(ended: Result<Ending, Halt>, reports: &mut Re
     }
 }
 
-/// Starts the node over its log, gives back what dead nodes have, answers each line of an input for it, closes all that
-/// is open then, whatever ended it, and gives back what the node still has. What goes wrong at the log is told.
+/// Starts the node over its log, releases what dead nodes have, and answers each line of an input for it. Then it
+/// closes all that is open, whatever ended the input, and releases what the node still has. It tells what goes wrong at
+/// the log.
 fn start_and_answer<
     L: Refusing + Renewing + SpansCalls + Drop,
     D: DeadNodes + Drop,
@@ -145,9 +148,9 @@ fn start_and_answer<
     settle_end(node, served, traced, reports)
 }
 
-/// Gives back what the node still has after all was closed. What goes wrong at the log is told.
+/// Releases what the node still has after all was closed. It tells what goes wrong at the log.
 ///
-/// `Halt` where lines were served so, and `Owing` where something of the node stays.
+/// `Halt` if the lines were served so, and `Owing` if something of the node stays.
 pub(crate) fn settle_end<S: WorldStorage + Troubled + Drop, E: Write>(
     node: u64,
     served: Result<Ending, Halt>,
@@ -170,7 +173,7 @@ pub(crate) fn settle_end<S: WorldStorage + Troubled + Drop, E: Write>(
     }
 }
 
-/// Answers each line of an input, and closes all that is open then, whatever ended it. Gives the storage back.
+/// Answers each line of an input, and then closes all that is open, whatever ended the input. Returns the storage.
 pub fn answer_input<
     S: Viewed + Resuming + Troubled,
     D: DeadNodes + Drop,

@@ -1,4 +1,4 @@
-//! What programs are told of a log, or of nodes, that refuse: one line each.
+//! What programs are told if a log, or nodes, refuse: one line each.
 
 ghost use Rattle.std.specs.Prelude.{◌≡◌, ◌++◌, IfOk, OnOk, string_bytes};
 ghost use Rattle.negotiate_serve.specs.Replies.{GrowsBy};
@@ -12,15 +12,15 @@ use std::fmt;
 use wulameron_place::claims::{NodeError, NodeFault};
 use wulameron_place::trouble::Trouble;
 
-/// The line that answers nothing: the number of this form of lines, which is 2, and the node. `AllocError` where there
-/// is no memory.
+/// Returns the line that answers nothing: the number of this form of lines, which is 2, and the node. `AllocError` if
+/// there is no memory.
 pub fn greeting(alloc: Global, node: u64) -> Result<String, AllocError>
     ensures { IfOk result (λ line. string_bytes line ≡ greeting_of node) }
 {
     format!(in alloc; "ready 2 {node}\n")
 }
 
-/// Writes a line: words, and a leaf behind them.
+/// Writes a line: words, and a leaf after them.
 fn write_told(words: &str, why: &str, text: &mut String) -> Result<(), AllocError>
     ensures { OnOk result (string_bytes text.new ≡ string_bytes text.old ++ told_line words.now why.now) }
 {
@@ -31,7 +31,7 @@ fn write_told(words: &str, why: &str, text: &mut String) -> Result<(), AllocErro
 
 /// Writes why the log can't be used.
 ///
-/// `AllocError` where there is no memory. The text may then have a part of the line.
+/// `AllocError` if there is no memory. The text may then have a part of the line.
 pub fn tell_trouble(trouble: Trouble, text: &mut String) -> Result<(), AllocError>
     ensures { OnOk result (GrowsBy (IsLogReply trouble) (string_bytes text.old) (string_bytes text.new)) }
 {
@@ -39,7 +39,7 @@ pub fn tell_trouble(trouble: Trouble, text: &mut String) -> Result<(), AllocErro
     write_told("log", &why, text)
 }
 
-/// Why a node isn't claimed, or not looked at, in words.
+/// Returns in words why a node isn't claimed, or not looked at.
 fn why_not(alloc: Global, error: &NodeError) -> Result<String, AllocError>
     ensures { IfOk result (λ why. string_bytes why ≡ node_why error.now) }
 {
@@ -49,7 +49,7 @@ fn why_not(alloc: Global, error: &NodeError) -> Result<String, AllocError>
     }
 }
 
-/// By which word it is told that a node isn't claimed.
+/// Returns the word that tells that a node isn't claimed.
 fn unclaimed_word(error: &NodeError) -> &'static str
     ensures { result.now ≡ unclaimed_word error.now }
 {
@@ -67,7 +67,7 @@ fn unclaimed_word(error: &NodeError) -> &'static str
 
 /// Writes why a node isn't claimed.
 ///
-/// `AllocError` where there is no memory. The text may then have a part of the line.
+/// `AllocError` if there is no memory. The text may then have a part of the line.
 pub fn tell_unclaimed(error: &NodeError, text: &mut String) -> Result<(), AllocError>
     ensures { OnOk result (string_bytes text.new ≡ string_bytes text.old ++ unclaimed_line error.now) }
 {
@@ -77,16 +77,16 @@ pub fn tell_unclaimed(error: &NodeError, text: &mut String) -> Result<(), AllocE
 
 /// Writes that the log refuses for this reason.
 ///
-/// `AllocError` where there is no memory. The text may then have a part of the line.
+/// `AllocError` if there is no memory. The text may then have a part of the line.
 pub fn refuse_by_log(why: &str, text: &mut String) -> Result<(), AllocError>
     ensures { OnOk result (string_bytes text.new ≡ string_bytes text.old ++ refused_line why.now) }
 {
     write_told("refused by the log", why, text)
 }
 
-/// Writes that the log refuses since this goes wrong.
+/// Writes that the log refuses because this goes wrong.
 ///
-/// `AllocError` where there is no memory. The text may then have a part of the line.
+/// `AllocError` if there is no memory. The text may then have a part of the line.
 pub fn refuse_for_trouble(trouble: Trouble, text: &mut String) -> Result<(), AllocError>
     ensures { OnOk result (GrowsBy (IsRefusal trouble) (string_bytes text.old) (string_bytes text.new)) }
 {
@@ -94,9 +94,9 @@ pub fn refuse_for_trouble(trouble: Trouble, text: &mut String) -> Result<(), All
     write_told("refused by the log", &why, text)
 }
 
-/// Writes that a node's file, or what has its claim, refuses.
+/// Writes that a node's file, or the holder of its claim, refuses.
 ///
-/// `AllocError` where there is no memory. The text may then have a part of the line.
+/// `AllocError` if there is no memory. The text may then have a part of the line.
 pub fn refuse_for(error: &NodeError, text: &mut String) -> Result<(), AllocError>
     ensures { OnOk result (string_bytes text.new ≡ string_bytes text.old ++ refused_line (node_why error.now)) }
 {
@@ -106,7 +106,7 @@ pub fn refuse_for(error: &NodeError, text: &mut String) -> Result<(), AllocError
 
 /// Writes what is wrong with what has this path at the log's place.
 ///
-/// `AllocError` where there is no memory. The text may then have a part of the line.
+/// `AllocError` if there is no memory. The text may then have a part of the line.
 pub fn tell_wrong<X: fmt::Display + Copy>(
     path: &str,
     wrong: X,

@@ -1,4 +1,4 @@
-//! How lines are answered where their log can't be used any more after one.
+//! Answers lines if their log can become unusable after one.
 
 ghost use Rattle.std.specs.Prelude.{OnOk, string_bytes};
 ghost use Rattle.negotiate_serve.specs.Replies.{GrowsBy};
@@ -10,12 +10,11 @@ use negotiate_serve::lines::Lines;
 use std::alloc::AllocError;
 use wulameron_place::trouble::{Troubled, last_trouble};
 
-/// Room for each reply but long ones. So that there is memory for the reply to what changes something, it is asked for
-/// before.
+/// Room for each reply except long ones. It is asked for before a command that changes something, so that there is
+/// memory for its reply.
 const SHORT_REPLY: usize = 256;
 
-/// Lines that are answered so. Where the log can't be used any more after one, the reply tells why, in place of what it
-/// would be.
+/// Answers lines. If the log can't be used any more after one, the reply tells why, instead of what it would be.
 #[derive(Clone, Copy)]
 pub struct ToldLines<I> {
     pub lines: I,

@@ -27,21 +27,21 @@ pub trait Viewed: WorldStorage {
     /// How many accesses it has counted.
     ghost counted: { Self → ℕ };
 
-    /// What is written of a reply to a line's command, by which a session came from `first` to `last`, as the storage is
-    /// shown then.
+    /// What is written of a reply to a line's command, by which a session came from `first` to `last`, as the storage
+    /// is shown then.
     ghost writes: { (line : List ℕ) → Command → declared-reply.Reply → (first last : SessionOver Self) → (shown : Self)
         → (text : List ℕ) → Type 0 };
 
-    /// What stands behind each answer.
+    /// What follows each answer.
     ghost ending: { List ℕ };
 
-    /// How many accesses it has counted.
+    /// Returns how many accesses it has counted.
     fn counted(&self) -> u64
         ensures { result ≡ counted self.now };
 
-    /// Writes the reply to a line's command for this slot that made so many accesses.
+    /// Writes the reply to a line's command for this slot that made this many accesses.
     ///
-    /// `AllocError` where memory runs out. The text may then have a part of this.
+    /// `AllocError` if memory runs out. The text may then have a part of this.
     fn write_reply(
         &self,
         line: &[u8],
@@ -57,14 +57,14 @@ pub trait Viewed: WorldStorage {
             → OnOk result (GrowsBy (writes line.now c reply.now first last self.now)
             (string_bytes text.old) (string_bytes text.new)) };
 
-    /// What stands behind each answer.
+    /// Returns what follows each answer.
     fn ending() -> &'static str
         ensures { result.now ≡ ending };
 
-    /// That it stays ready while others' doings are shown and cleaned up for,
+    /// It stays ready while it takes over what others did and cleans up for them,
     ghost ready_shown: { (old new : Self) → Self.shows old new → ready old → ready new };
 
-    /// while the node gives something back,
+    /// while the node releases something,
     ghost ready_settled: { (old new : Self) → Self.settles old new → ready old → ready new };
 
     /// and while a call begins or ends,
@@ -73,7 +73,7 @@ pub trait Viewed: WorldStorage {
     /// which is no access,
     ghost counted_spanned: { (old new : Self) → Self.spans old new → counted new ≡ counted old };
 
-    /// and that it is ready after a command where it was before.
+    /// and it is ready after a command if it was ready before.
     ghost ready_after: { (first last : SessionOver Self) (c : Command) (answer : declared-reply.Reply)
         → AppliesBy Self.step Self.world first c answer last → ready first.table → ready last.table };
 }
@@ -120,7 +120,7 @@ impl<L: Refusing + SpansCalls> Viewed for Journal<L> {
     }
 }
 
-// Over a storage that keeps its accesses each reply is followed by them and an empty line, and a refusal by why it comes.
+// Over a storage that keeps its accesses each reply is followed by them and an empty line, and a refusal by its cause.
 impl<S: WorldStorage> Viewed for Traced<S> {
     ghost use Rattle.std.specs.Prelude.{codes};
     ghost use Rattle.explain_serve.specs.Traces.{HasItsRoom};

@@ -12,11 +12,11 @@ ghost use Rattle.wulameron_serve.specs.Words.{PartsLeaves, word_of};
 use percent_encoding::{AsciiSet, CONTROLS, ascii_set, percent_encode};
 use std::alloc::AllocError;
 
-/// The bytes of ASCII that stand escaped in a word: controls, the blank, and what begins an escape. The bytes that part the
-/// leaves of a term stand as they are.
+/// The bytes of ASCII that are escaped in a word: controls, the blank, and the byte that begins an escape. The bytes
+/// that part the leaves of a term aren't escaped.
 pub const WORD_ESCAPES: AsciiSet = ascii_set!(CONTROLS.add(b' ').add(b'%'));
 
-/// Appends a word as a term. `AllocError` where the text finds no memory; it may have a part of it then.
+/// Appends a word as a term. `AllocError` if the text finds no memory; it may have a part of the word then.
 pub fn escape_word(word: &[u8], text: &mut String) -> Result<(), AllocError>
     ensures { OnOk result (string_bytes text.new ≡ string_bytes text.old ++ word_of word.now) }
 {
@@ -26,7 +26,7 @@ pub fn escape_word(word: &[u8], text: &mut String) -> Result<(), AllocError>
     percent_encode(word, WORD_ESCAPES).append_to(text)
 }
 
-/// Appends a word behind a space.
+/// Appends a word after a space.
 fn write_word(word: &str, text: &mut String) -> Result<(), AllocError>
     ensures { OnOk result (string_bytes text.new ≡ string_bytes text.old ++ (codes " " ++ word_of word.now)) }
 {
@@ -34,7 +34,7 @@ fn write_word(word: &str, text: &mut String) -> Result<(), AllocError>
     escape_word(word.as_bytes(), text)
 }
 
-/// Appends each word behind a space. `AllocError` where the text finds no memory; it may have a part of them then.
+/// Appends each word after a space. `AllocError` if the text finds no memory; it may have a part of them then.
 pub fn write_words(words: &[&str], text: &mut String) -> Result<(), AllocError>
     ensures { OnOk result (string_bytes text.new
         ≡ string_bytes text.old ++ flat_map (λ word. codes " " ++ word_of word.now) words.now) }
@@ -45,8 +45,8 @@ pub fn write_words(words: &[&str], text: &mut String) -> Result<(), AllocError>
     Ok(())
 }
 
-/// A word stands in the line as one term, and stands for itself where it is a leaf. It is cut at its `=`, `:` and `,` as it
-/// was, and each part stands for itself.
+/// States that a word is one term in the line, and that it is its own text if it is a leaf. It is cut at its `=`, `:`
+/// and `,` as before, and each part is its own text.
 pub fn laws_of_words()
     ensures leaf { (word : List ℕ) → IsUtf8 word → IsLeaf form.Escaped (word_of word) word }
     ensures part { (part : List ℕ) → IsUtf8 part → IsLeaf form.Escaped (percent_encode WORD_ESCAPES part) part }

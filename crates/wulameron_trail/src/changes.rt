@@ -27,7 +27,7 @@ pub struct Published {
     pub description: StaticConfig,
 }
 
-// Written out, so that a proof of what lets one go doesn't take its fields apart.
+// It is written out, so that proofs of what lets one go don't pay for each field.
 impl Drop for Published {
     fn drop(self) {
         let Published {
@@ -37,10 +37,10 @@ impl Drop for Published {
     }
 }
 
-/// What stands of an entry's service.
+/// What there is of an entry's service.
 #[derive(Drop)]
 pub struct Standing {
-    /// `None` where it isn't published.
+    /// `None` if it isn't published.
     pub published: Option<Published>,
     /// Whether the entry's node has a factory of it.
     pub is_in: bool,
@@ -49,7 +49,7 @@ pub struct Standing {
 /// What happens to a service.
 #[derive(Clone, Copy)]
 pub enum Happening {
-    /// It is published. Its creator is in it.
+    /// The service is published. Its creator is in it.
     Created,
     /// A node has its first factory of it.
     Opened,
@@ -68,7 +68,7 @@ pub struct Change {
     pub node: u64,
 }
 
-// Written out, so that a proof of what lets one go doesn't take its fields apart.
+// It is written out, so that proofs of what lets one go don't pay for each field.
 impl Drop for Change {
     fn drop(self) {
         let Change {
@@ -80,8 +80,8 @@ impl Drop for Change {
     }
 }
 
-/// What stands of an entry's service in a world, before the entry or after it. `AllocError` where there is no memory
-/// for the description.
+/// Returns what there is of an entry's service in a world, before the entry or after it. `AllocError` if there is no
+/// memory for the description.
 pub fn standing_of(
     alloc: Global,
     world: &StoredWorld,
@@ -94,7 +94,7 @@ pub fn standing_of(
     Ok(Standing { published, is_in })
 }
 
-/// Whether a node of this phase has a factory.
+/// Returns whether a node of this phase has a factory.
 fn is_joined(phase: Phase) -> bool
     ensures { result ≡ is_some (joined_number phase) }
 {
@@ -104,7 +104,7 @@ fn is_joined(phase: Phase) -> bool
     }
 }
 
-/// The service that is published in a row.
+/// Returns the service that is published in a row.
 fn published_in(alloc: Global, held: Option<&StoredRow>) -> Result<Option<Published>, AllocError>
     ensures { IfOk result (IsPublishedIn (option_copied held.entry)) }
 {
@@ -117,7 +117,7 @@ fn published_in(alloc: Global, held: Option<&StoredRow>) -> Result<Option<Publis
     }
 }
 
-/// The service of this number that is published in a row.
+/// Returns the service of this number that is published in a row.
 fn described(
     alloc: Global,
     number: u64,
@@ -135,9 +135,9 @@ fn described(
     }
 }
 
-/// What an entry changes of its service, by what stood of that before the entry, and the world after it: at most one
-/// change, and none where nobody has to know. A node's further openings, and the end of one of several factories, are
-/// none. `AllocError` where there is no memory for the description.
+/// Returns what an entry changes of its service: at most one change, and none if nobody has to know. It is given what
+/// there was of the service before the entry, and the world after it. A node's further openings, and the end of one of
+/// several factories, are no changes. `AllocError` if there is no memory for the description.
 pub fn change_of(
     alloc: Global,
     before: Standing,
@@ -151,7 +151,7 @@ pub fn change_of(
     Ok(change_between(before, entry, standing))
 }
 
-/// What an entry changes of its service, by what stood before it and what stands after it.
+/// Returns what an entry changes of its service, by what there was before it and what there is after it.
 pub fn change_between(before: Standing, entry: &Entry, after: Standing) -> Option<Change>
     ensures { result ≡ change_in before entry.now after }
 {
@@ -175,7 +175,7 @@ pub fn change_between(before: Standing, entry: &Entry, after: Standing) -> Optio
     }
 }
 
-/// What a node changes of a service that stays.
+/// Returns what a node changes of a service that remains.
 fn passage(was_in: bool, is_in: bool, published: Published, entry: &Entry) -> Option<Change>
     ensures { result ≡ with_entry entry.now (happened_spec (Some published) (Some published) was_in is_in) }
 {
@@ -188,7 +188,7 @@ fn passage(was_in: bool, is_in: bool, published: Published, entry: &Entry) -> Op
     None
 }
 
-/// A change with its entry's service and node.
+/// Returns a change with its entry's service and node.
 fn made_by(happening: Happening, published: Published, entry: &Entry) -> Change
     ensures { Some result ≡ with_entry entry.now (Some (happening, published)) }
 {
@@ -200,7 +200,7 @@ fn made_by(happening: Happening, published: Published, entry: &Entry) -> Change
     }
 }
 
-/// The word for what happens.
+/// Returns the word for what happens.
 fn word(happening: Happening) -> &'static str
     ensures { result.now ≡ word_of happening }
 {
@@ -213,7 +213,7 @@ fn word(happening: Happening) -> &'static str
 }
 
 /// Writes a change as a line for people: what happens, the service's pattern, its name without control characters, and
-/// the node. `AllocError` where there is no memory.
+/// the node. `AllocError` if there is no memory.
 pub fn change_text(change: &Change, text: &mut String) -> Result<(), AllocError>
     ensures { OnOk result (string_bytes text.new ≡ string_bytes text.old ++ change_line change.now) }
 {
@@ -223,7 +223,7 @@ pub fn change_text(change: &Change, text: &mut String) -> Result<(), AllocError>
     writeln!(text, "{word} {service} by node {node}")
 }
 
-/// The value of a change's line for programs.
+/// Returns the value of a change's line for programs.
 fn change_value(alloc: Global, change: &Change) -> Result<Value, AllocError>
     ensures { IfOk result (λ value. view value ≡ data_of change.now) }
 {
@@ -245,7 +245,7 @@ fn change_value(alloc: Global, change: &Change) -> Result<Value, AllocError>
 }
 
 /// Writes a change as a line for programs: an object of JSON whose keys are `change`, `hash`, `name`, `node`, `number`
-/// and `pattern`. `AllocError` where there is no memory.
+/// and `pattern`. `AllocError` if there is no memory.
 pub fn change_json(change: &Change, text: &mut String) -> Result<(), AllocError>
     ensures { OnOk result (string_bytes text.new ≡ string_bytes text.old ++ json_line change.now) }
 {

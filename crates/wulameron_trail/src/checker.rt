@@ -18,18 +18,18 @@ use iceoryx2_log::entry::{Entry, Operation};
 use iceoryx2_table::table::stored::StoredWorld;
 use std::alloc::{AllocError, Global};
 
-/// What stands after the last entry of a log that is sound.
+/// What follows the last entry of a sound log.
 #[derive(Clone, Copy)]
 pub enum Ending {
     /// Nothing.
     Whole,
-    /// So many bytes, which a writer left that died. Who appends next cuts them off.
+    /// This many bytes, which a writer left that died. The next append cuts them off.
     Torn(u64),
     /// The mark that the log goes on in another file.
     Moved,
 }
 
-/// What is known of a log that is sound.
+/// What is known of a sound log.
 #[derive(Clone, Copy)]
 pub struct Sound {
     /// How many entries it has, without a mark.
@@ -44,11 +44,11 @@ pub struct Sound {
 pub enum LogFault {
     /// Its first bytes are no header.
     BadHeader(HeaderError),
-    /// There is no entry, and no end that a writer leaves that died.
+    /// There is no entry, and no end that a dead writer leaves.
     DamagedEntry,
-    /// The entry isn't what the world answers.
+    /// The world doesn't answer what the entry says.
     NotAnswered,
-    /// The snapshot ends before the length that the header has: within an entry, or with the file.
+    /// The snapshot ends before the length that the header tells: within an entry, or with the file.
     ShortSnapshot,
     /// More follows the mark that the log goes on in another file.
     MarkNotLast,
@@ -58,9 +58,9 @@ pub enum LogFault {
 #[derive(Clone, Copy)]
 pub struct Found {
     pub wrong: LogFault,
-    /// The number of the entry where that is, counted from 0.
+    /// The number of the entry at which it is, counted from 0.
     pub place: u64,
-    /// The byte of the file where that begins, counted from 0.
+    /// The byte of the file at which it begins, counted from 0.
     pub byte: u64,
 }
 
@@ -71,10 +71,10 @@ pub enum Verdict {
     Wrong(Found),
 }
 
-/// What comes of the next bytes of a log.
+/// What the next bytes of a log come to.
 #[derive(Clone, Copy)]
 enum Step {
-    /// An entry of so many bytes, which is followed.
+    /// An entry of this many bytes, which is followed.
     Followed(usize),
     /// Its end.
     Ended(Ending),
@@ -82,18 +82,18 @@ enum Step {
     Failed(LogFault),
 }
 
-/// Where an entry stands.
+/// The place of an entry.
 #[derive(Clone, Copy)]
 struct Span {
     /// How long the log's snapshot is, in bytes.
     snapshot: u64,
-    /// How many bytes of entries stand before it.
+    /// How many bytes of entries precede it.
     at: u64,
     /// How many bytes it has.
     count: usize,
 }
 
-/// The end of a log, unless the snapshot is longer than what stands before it.
+/// Returns the end of a log, unless the snapshot is longer than what precedes the end.
 fn ended(snapshot: u64, at: u64, ending: Ending) -> Step
     ensures { (w : World) (rest : List ℕ) → IsEnd rest ending → IsStep snapshot w at rest result w }
 {
@@ -103,7 +103,7 @@ fn ended(snapshot: u64, at: u64, ending: Ending) -> Step
     Step::Ended(ending)
 }
 
-/// What stands at the end, where that is torn.
+/// Returns the ending for these bytes at a torn end.
 fn torn(rest: &[u8]) -> Ending
     requires { IsTorn rest.now }
     ensures { IsEnd rest.now result }
@@ -114,14 +114,14 @@ fn torn(rest: &[u8]) -> Ending
     Ending::Torn(rest.len() as u64)
 }
 
-/// Whether an entry of so many bytes ends with the snapshot at the latest, or begins after it.
+/// Returns whether an entry of this many bytes ends with the snapshot or before, or begins after it.
 fn fits(snapshot: u64, at: u64, count: u64) -> bool
     ensures { IsTrue result ↔ Fits snapshot at count }
 {
     count <= snapshot.saturating_sub(at) || snapshot <= at
 }
 
-/// Whether the operation is the mark that the log goes on in another file.
+/// Returns whether the operation is the mark that the log goes on in another file.
 pub(crate) fn is_mark(operation: &Operation) -> bool
     ensures { IsTrue result ↔ (operation.now ≡ mark) }
 {
@@ -131,7 +131,7 @@ pub(crate) fn is_mark(operation: &Operation) -> bool
     }
 }
 
-/// What comes of a mark of so many bytes.
+/// Returns what a mark of this many bytes comes to.
 fn marked(snapshot: u64, at: u64, rest: &[u8], count: usize) -> Step
     ensures { (w : World) (e : declared.Entry) → Begins rest.now e count → e.operation ≡ mark
         → IsStep snapshot w at rest.now result w }
@@ -142,7 +142,7 @@ fn marked(snapshot: u64, at: u64, rest: &[u8], count: usize) -> Step
     ended(snapshot, at, Ending::Moved)
 }
 
-/// What comes of an access of so many bytes.
+/// Returns what an access of this many bytes comes to.
 fn accessed(
     alloc: Global,
     world: &mut StoredWorld,
@@ -164,7 +164,7 @@ fn accessed(
     }
 }
 
-/// What comes of the next bytes of a log, after so many bytes of entries.
+/// Returns what the next bytes of a log come to, after this many bytes of entries.
 fn next_step(
     alloc: Global,
     world: &mut StoredWorld,
@@ -195,7 +195,7 @@ fn next_step(
     }
 }
 
-/// What is known where the entries end.
+/// Returns what is known at the end of the entries.
 fn ended_at(entries: u64, at: usize, ending: Ending) -> Sound
     requires { at < 2 ^ 63 }
     ensures { result ≡ record { entries = entries; end = header_length + at; ending = ending } }
@@ -207,7 +207,7 @@ fn ended_at(entries: u64, at: usize, ending: Ending) -> Sound
     }
 }
 
-/// What is wrong after so many bytes of entries.
+/// Returns what is wrong after this many bytes of entries.
 fn failed_at(wrong: LogFault, place: u64, at: usize) -> Found
     requires { at < 2 ^ 63 }
     ensures { result ≡ record { wrong = wrong; place = place; byte = header_length + at } }
@@ -219,7 +219,7 @@ fn failed_at(wrong: LogFault, place: u64, at: usize) -> Found
     }
 }
 
-/// What a log is whose header is this, by the bytes after that.
+/// Returns what a log with this header is, by the bytes after the header.
 fn walk(alloc: Global, header: &Header, entries: &[u8]) -> Result<Verdict, AllocError>
     ensures { IfOk result (IsVerdictOn header.now entries.now) }
 {
@@ -241,7 +241,7 @@ fn walk(alloc: Global, header: &Header, entries: &[u8]) -> Result<Verdict, Alloc
     unreachable!()
 }
 
-/// The bytes of a header, as far as they are there, and those after it.
+/// Returns the bytes of a header, as far as they are there, and those after it.
 fn parted(bytes: &[u8]) -> (&[u8], &[u8])
     ensures front { result.0.now ≡ take header_length bytes.now }
     ensures all { bytes.now ≡ result.0.now ++ result.1.now }
@@ -252,7 +252,7 @@ fn parted(bytes: &[u8]) -> (&[u8], &[u8])
     bytes.split_at(HEADER_LENGTH)
 }
 
-/// Which header the bytes are, or why they are none.
+/// Returns the header that the bytes are, or why they are none.
 fn header_of(bytes: &[u8]) -> Result<Header, HeaderError>
     ensures form { IfOk result (λ h. IsHeaderForm h bytes.now) }
     ensures fault { IfErr result (IsNoHeader bytes.now) }
@@ -260,11 +260,11 @@ fn header_of(bytes: &[u8]) -> Result<Header, HeaderError>
     header::decode(bytes)
 }
 
-/// What the bytes of a log's file are: sound, or not and then the first thing that is wrong. They are sound where they
-/// are a header and entries, each of which is what the world before it answers, with the whole snapshot among them, and
-/// after these nothing, what a writer left that died, or the mark that the log goes on in another file. It goes over
-/// the bytes once. Whether a world agrees isn't tested: each one that is followed does (`laws_of_checking`).
-/// `AllocError` where there is no memory.
+/// Returns what the bytes of a log's file are: sound, or the first thing that is wrong. They are sound if they are a
+/// header and entries, each of which is what the world before it answers, with the whole snapshot among them. After
+/// these there may be nothing, what a dead writer left, or the mark that the log goes on in another file. It reads the
+/// bytes once. It doesn't test whether a world agrees: each one that is followed does (`laws_of_checking`).
+/// `AllocError` if there is no memory.
 pub fn check(alloc: Global, bytes: &[u8]) -> Result<Verdict, AllocError>
     ensures { IfOk result (IsVerdict bytes.now) }
 {
@@ -279,7 +279,7 @@ pub fn check(alloc: Global, bytes: &[u8]) -> Result<Verdict, AllocError>
     }
 }
 
-/// What is true of each world that the entries of a log come to.
+/// States what is true of each world to which the entries of a log come.
 pub fn laws_of_checking()
     ensures { ReachedWorldsAgree }
 {}

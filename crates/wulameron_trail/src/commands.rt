@@ -29,11 +29,11 @@ use wulameron_place::opening::opened_view;
 use wulameron_place::reports::Reports;
 use wulameron_place::trouble::{Refusing, Trouble};
 
-/// The status where a log isn't sound.
+/// The status if a log isn't sound.
 pub const NOT_SOUND: u8 = 1;
 
-/// Prints the entries of a log, and gives the status: 0, or 3 where the log can't be read to its end, the output fails
-/// or there is no memory, of which the writer of errors has a line. Where it is to follow the log it goes on as that
+/// Prints the entries of a log, and returns the status: 0, or 3 if the log can't be read to its end, the output fails
+/// or there is no memory, of which the writer of errors has a line. If it is to follow the log, it goes on as the log
 /// grows, until a pause ends it.
 pub fn log<
     F: Files<File = File> + Clock + RandomSource + AllocGlobal,
@@ -96,7 +96,8 @@ fn print_once<S: Source, W: Write>(
     }
 }
 
-/// Prints what each entry changes that comes from now on, until a pause ends it, and gives the status as `log` does.
+/// Prints what each entry changes that is appended from now on, until a pause ends it, and returns the status as `log`
+/// does.
 pub fn watch<
     F: Files<File = File> + Clock + RandomSource + AllocGlobal,
     I: Pauses,
@@ -139,7 +140,7 @@ fn print_changes<S: Source, I: Pauses, W: Write>(
     follow(alloc, source, &mut changes, pauses, output)
 }
 
-/// Whether a form is JSON.
+/// Returns whether a form is JSON.
 fn is_json(form: Form) -> bool {
     match form {
         Form::Json => true,
@@ -148,8 +149,7 @@ fn is_json(form: Form) -> bool {
     }
 }
 
-/// Lists the services of a log, and anew with each change that comes, until a pause ends it. Gives the status as `log`
-/// does.
+/// Lists the services of a log, and again with each change, until a pause ends it. Returns the status as `log` does.
 pub fn watch_list<
     F: Files<File = File> + Clock + RandomSource + AllocGlobal,
     I: Pauses,
@@ -190,9 +190,9 @@ fn print_lists<F: Files<File = File> + AllocGlobal, S: Source, I: Pauses, W: Wri
     follow(alloc, source, &mut listing, pauses, output)
 }
 
-/// Prints whether a log is sound, and gives the status: 0, 1 where it isn't, or 3 where it can't be read, the output
-/// fails or there is no memory, of which the writer of errors has a line. A log in a database is read from the snapshot
-/// with which it begins, as the bytes that it would have in a file.
+/// Prints whether a log is sound, and returns the status: 0, 1 if it isn't, or 3 if it can't be read, the output fails
+/// or there is no memory, of which the writer of errors has a line. A log in a database is read from its snapshot on,
+/// as the bytes that it would have in a file.
 pub fn check<F: Files<File = File> + Clock + RandomSource + AllocGlobal, W: Write, E: Write>(
     rt: &F,
     place: &Place<'_>,
@@ -231,7 +231,7 @@ fn check_rows<L: Refusing + Drop, W: Write, E: Write>(
     }
 }
 
-/// The status where a verdict was printed, or the failure is told.
+/// Returns the status after a verdict was printed, or tells the failure.
 fn end_check<E: Write>(printed: Result<u8, ServeError>, reports: &mut Reports<'_, E>) -> u8 {
     match printed {
         Ok(status) => status,
@@ -239,7 +239,7 @@ fn end_check<E: Write>(printed: Result<u8, ServeError>, reports: &mut Reports<'_
     }
 }
 
-/// The bytes of the file of this path.
+/// Returns the bytes of the file of this path.
 fn read_file<F: Files<File = File> + AllocGlobal>(
     rt: &F,
     path: &str,
@@ -252,9 +252,9 @@ fn read_file<F: Files<File = File> + AllocGlobal>(
     }
 }
 
-/// Prints what a log's bytes are, and gives the status: 0 where they are sound, and else 1.
+/// Prints what a log's bytes are, and returns the status: 0 if they are sound, and 1 otherwise.
 ///
-/// `ServeError` as `write_out` does, and where there is no memory; nothing is written then.
+/// `ServeError` as `write_out` does, and if there is no memory; nothing is written then.
 pub fn print_verdict<W: Write>(
     alloc: Global,
     bytes: &[u8],
@@ -268,7 +268,7 @@ pub fn print_verdict<W: Write>(
     }
 }
 
-/// Writes the line of a verdict, and gives its status.
+/// Writes the line of a verdict, and returns its status.
 fn write_verdict<W: Write>(
     alloc: Global,
     verdict: Verdict,
@@ -286,7 +286,7 @@ fn write_verdict<W: Write>(
     }
 }
 
-/// The status of a verdict.
+/// Returns the status of a verdict.
 fn verdict_status(verdict: Verdict) -> u8
     ensures { result ≡ status_of_verdict verdict }
 {
@@ -299,7 +299,7 @@ fn verdict_status(verdict: Verdict) -> u8
 /// An entry that isn't followed.
 #[derive(Clone, Copy)]
 struct NotAnswered {
-    /// Whether it is a byte or a row where it begins.
+    /// Whether it begins at a byte or a row.
     unit: &'static str,
     at: u64,
 }
@@ -314,7 +314,7 @@ impl fmt::Display for NotAnswered {
     }
 }
 
-/// Writes the line of what stopped a command at the entry that begins there, and gives the status.
+/// Writes the line of what stopped a command at the entry that begins there, and returns the status.
 fn report_end<E: Write>(
     unit: &'static str,
     at: u64,

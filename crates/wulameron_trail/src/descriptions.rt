@@ -7,7 +7,7 @@ use iceoryx2_data::bytes::{DecodeError, decode};
 use iceoryx2_description::description::StaticConfig;
 use std::alloc::{AllocError, Global};
 
-/// The description whose byte form the bytes are. `None` where they are no description's. `AllocError` where there is
+/// Returns the description whose byte form the bytes are. `None` if they are no description's. `AllocError` if there is
 /// no memory for it.
 pub(crate) fn read(alloc: Global, bytes: &[u8]) -> Result<Option<StaticConfig>, AllocError>
     ensures { IfOk result (IsRead bytes.now) }

@@ -13,9 +13,9 @@ use negotiate_lines::escape::escape;
 use std::alloc::{AllocError, Global};
 use wulameron_view::list_text::term_of;
 
-/// Writes the line of an entry, which has this number in its log, counted from 0: the number, the node, what it did,
-/// the service's hash, and the entry's numbers; of a publishing the pattern and the name too, without control
-/// characters. `AllocError` where there is no memory; a front of the line may then be written.
+/// Writes the line of an entry: its number in the log, counted from 0, the node, what it did, the service's hash, and
+/// the entry's numbers. A publishing also has the pattern and the name, without control characters. `AllocError` if
+/// there is no memory; a prefix of the line may then be written.
 pub fn entry_line(place: u64, entry: &Entry, text: &mut String) -> Result<(), AllocError>
     ensures { OnOk result (AddsEntryLine place entry.now (string_bytes text.old) (string_bytes text.new)) }
 {
@@ -24,7 +24,7 @@ pub fn entry_line(place: u64, entry: &Entry, text: &mut String) -> Result<(), Al
     writeln!(text, "{place} {doer}{done}")
 }
 
-/// Who did it, and then a space. Nobody did a mark.
+/// Returns the node of an entry, and a space. A mark has no node.
 pub(crate) fn doer(alloc: Global, entry: &Entry) -> Result<String, AllocError>
     ensures { IfOk result (λ text. string_bytes text ≡ doer_text entry.now) }
 {
@@ -35,7 +35,7 @@ pub(crate) fn doer(alloc: Global, entry: &Entry) -> Result<String, AllocError>
     }
 }
 
-/// What an entry did, without who did it.
+/// Returns what an entry did, without its node.
 pub(crate) fn operation_text(alloc: Global, entry: &Entry) -> Result<String, AllocError>
     ensures { IfOk result (λ text. IsDone entry.now.hash.0 entry.now.operation (string_bytes text)) }
 {
@@ -64,7 +64,7 @@ pub(crate) fn operation_text(alloc: Global, entry: &Entry) -> Result<String, All
     }
 }
 
-/// What the publishing of this description did to the service of this hash, written in hex.
+/// Returns what the publishing of this description did to the service of this hash, written in hex.
 fn publishing_text(
     alloc: Global,
     hash: &str,
@@ -79,7 +79,7 @@ fn publishing_text(
     format!(in alloc; "publishes {what} {hash} number={number}")
 }
 
-/// A published service by its pattern and its name.
+/// Returns the pattern and the name of a published service.
 fn published_as(alloc: Global, found: &Option<StaticConfig>) -> Result<String, AllocError>
     ensures { IfOk result (λ text. string_bytes text ≡ published_text found.now) }
 {
@@ -89,7 +89,7 @@ fn published_as(alloc: Global, found: &Option<StaticConfig>) -> Result<String, A
     }
 }
 
-/// The term of a service's pattern, and its name without control characters.
+/// Returns the term of a service's pattern, and its name without control characters.
 pub(crate) fn pattern_and_name(
     alloc: Global,
     description: &StaticConfig,

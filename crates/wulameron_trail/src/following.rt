@@ -1,8 +1,8 @@
-//! Reading a log's file without its lock, and going on as it grows.
+//! Reads a log's file without its lock, and goes on as it grows.
 //!
-//! An entry is one write, so a reader may find a front of it: that isn't an entry yet, and is read again at the next
-//! look. A mark means that the log goes on in the file that has its path now, once that is another file: as long as it
-//! is this one, whoever wrote the mark died or isn't done, and the mark may be cut off.
+//! An entry is one write, so a reader may find a prefix of it. That isn't an entry yet, and is read again at the next
+//! look. A mark means that the log goes on in the file that has its path now, if that is another file. As long as it is
+//! this file, the writer of the mark died or isn't done, and the mark may be cut off.
 
 ghost use Rattle.std.specs.Prelude.{◌≡◌};
 ghost use Rattle.iceoryx2_file_log.specs.Opening.{header_fault_of};
@@ -24,7 +24,7 @@ use std::os::unix::fs::MetadataExt;
 use std::rt::Files;
 use wulameron_place::trouble::Trouble;
 
-/// Opens the file of this path: `Failed` by `NotFound` where nothing has it.
+/// Opens the file of this path. `Failed` by `NotFound` if nothing has the path.
 pub(crate) fn open_file(rt: &impl Files<File = File>, path: &str) -> Result<File, FileFault> {
     match find_file(rt, path) {
         Ok(Some(file)) => Ok(file),
@@ -35,7 +35,7 @@ pub(crate) fn open_file(rt: &impl Files<File = File>, path: &str) -> Result<File
     }
 }
 
-/// The header with which the file begins.
+/// Returns the header with which the file begins.
 fn read_header(alloc: Global, file: &mut File) -> Result<Header, FileFault> {
     let mut bytes = Vec::new(alloc);
     match file.take(HEADER_LENGTH as u64).read_to_end(&mut bytes) {
@@ -47,7 +47,7 @@ fn read_header(alloc: Global, file: &mut File) -> Result<Header, FileFault> {
     }
 }
 
-/// Why a file with such first bytes isn't read.
+/// Returns why a file with these first bytes isn't read.
 fn header_fault(error: HeaderError) -> FileFault
     ensures { result ≡ header_fault_of error }
 {
@@ -58,14 +58,14 @@ fn header_fault(error: HeaderError) -> FileFault
     }
 }
 
-/// The stop where the log's file refused.
+/// Returns the stop after the log's file refused.
 fn of_file(fault: FileFault) -> Stop {
     Stop::Refused(Trouble::Refused(fault))
 }
 
-/// Where the entries of a log are read that isn't held.
+/// A place from which entries of a log are read that isn't held.
 pub trait Source {
-    /// Where the next entry begins: a byte of a file, or a number.
+    /// Returns where the next entry begins: a byte of a file, or a number.
     fn at(&self) -> u64;
 
     /// Shows the entries from there on, as far as they are written.
@@ -76,13 +76,13 @@ pub trait Source {
         output: &mut W,
     ) -> Result<Rest, Stop>;
 
-    /// The services after the entries that are written.
+    /// Returns the services after the entries that are written.
     fn services(&mut self, alloc: Global) -> Result<StoredWorld, Stop>;
 
-    /// The services after the snapshot with which the log begins.
+    /// Returns the services after the snapshot with which the log begins.
     fn services_of_snapshot(&mut self, alloc: Global) -> Result<StoredWorld, Stop>;
 
-    /// Goes to where the log goes on behind a mark. False where that is nowhere yet.
+    /// Goes to the place in which the log goes on after a mark. Returns false if there is no such place yet.
     fn go_on(&mut self) -> Result<bool, Stop>;
 }
 
@@ -98,7 +98,7 @@ pub struct LogFile<'a, F> {
 }
 
 impl<'a, F: Files<File = File> + AllocGlobal> LogFile<'a, F> {
-    /// Opens the log's file of this path, before its first entry. It isn't made.
+    /// Opens the log's file of this path, before its first entry. It doesn't make the file.
     pub fn open(rt: &'a F, path: &'a str) -> Result<LogFile<'a, F>, FileFault> {
         let mut file = open_file(rt, path)?;
         let header = read_header(rt.alloc(), &mut file)?;
@@ -130,7 +130,7 @@ impl<'a, F: Files<File = File> + AllocGlobal> LogFile<'a, F> {
         }
     }
 
-    /// The log's file that has the path now, unless that is this one.
+    /// Returns the log's file that has the path now, unless it is this one.
     fn next_file(&self) -> Result<Option<LogFile<'a, F>>, Stop> {
         let next = match LogFile::open(self.rt, self.path) {
             Ok(next) => next,
@@ -187,7 +187,7 @@ impl<'a, F: Files<File = File> + AllocGlobal> Source for LogFile<'a, F> {
     }
 }
 
-/// The services after the entries that a reader has left, from this counter on.
+/// Returns the services after the entries that a reader has left, from this counter on.
 fn services_after<R: Read>(
     alloc: Global,
     counter: u64,
@@ -203,9 +203,9 @@ fn services_after<R: Read>(
     }
 }
 
-/// What shows a log's entries, also where the log goes on in another place.
+/// Shows a log's entries, even if the log goes on in another place.
 pub trait Follows: Shows {
-    /// Goes on in the place that comes next, by the mark at the end of the one before.
+    /// Goes on in the next place, by the mark at the end of the one before.
     fn enter<S: Source, W: Write>(
         &mut self,
         alloc: Global,
@@ -214,7 +214,7 @@ pub trait Follows: Shows {
         output: &mut W,
     ) -> Result<(), Stop>;
 
-    /// Shows what the entries that a look has found come to, where they aren't shown one by one.
+    /// Shows what the entries of a look come to, if they aren't shown one by one.
     fn settle<W: Write>(&mut self, alloc: Global, output: &mut W) -> Result<(), Stop>;
 }
 
@@ -255,7 +255,7 @@ impl Follows for Changes {
     }
 }
 
-/// Shows what is written. True where the log goes on in another place, which is there to be shown.
+/// Shows what is written. Returns true if the log goes on in another place, which is there to be shown.
 fn look_on<S: Source, P: Follows, W: Write>(
     alloc: Global,
     source: &mut S,
@@ -274,8 +274,8 @@ fn look_on<S: Source, P: Follows, W: Write>(
     }
 }
 
-/// Whether what stopped a look may be gone at the next one: damage where there was none before may be half of what a
-/// writer cuts off and writes anew.
+/// Returns whether the next look may succeed after this stop. Damage at a place where there was none may be half of
+/// what a writer cuts off and writes again.
 fn is_passing(stop: Stop, at: u64, damaged_at: Option<u64>) -> bool {
     matches!(stop, Stop::Damaged) && damaged_at != Some(at)
 }

@@ -1,4 +1,4 @@
-//! The services of a log, listed anew with each change.
+//! The services of a log, listed again with each change.
 
 ghost use Rattle.std.specs.Prelude.{◌≡◌, ◌++◌, IfErr, IfOk, string_bytes};
 ghost use Rattle.wulameron_trail.specs.Listing.{IsUnmade, ListsAnew, PrintsBehind, gap, gap_behind, stop_in};
@@ -21,13 +21,13 @@ use wulameron_arguments::asked::{self, Form, Listed};
 use wulameron_place::claims;
 use wulameron_view::looking::{LookError, list_in};
 
-/// Lists the services anew, where they or the states of nodes have changed.
+/// Lists the services again if they or the states of nodes have changed.
 pub struct Listing<'a, F> {
     pub rt: &'a F,
     pub list: asked::List<'a>,
     /// The services before the next entry.
     pub world: StoredWorld,
-    /// Whether entries came since the services were listed.
+    /// Whether entries were read since the services were listed.
     pub is_stale: bool,
     /// The states of the nodes when the services were listed.
     pub states: Vec<NodeStatus>,
@@ -35,7 +35,7 @@ pub struct Listing<'a, F> {
     pub last: String,
 }
 
-// Written out, so that a proof of what lets one go doesn't take its fields apart.
+// It is written out, so that proofs of what lets one go don't pay for each field.
 impl<'a, F> Drop for Listing<'a, F> {
     fn drop(self) {
         let Listing {
@@ -50,7 +50,7 @@ impl<'a, F> Drop for Listing<'a, F> {
 }
 
 impl<'a, F: Files<File = File> + AllocGlobal> Listing<'a, F> {
-    /// Nothing is listed yet of the services of this world.
+    /// Returns a listing of the services of this world that has listed nothing yet.
     pub fn new(rt: &'a F, list: asked::List<'a>, world: StoredWorld) -> Listing<'a, F>
         ensures world { result.world ≡ world }
     {
@@ -64,7 +64,7 @@ impl<'a, F: Files<File = File> + AllocGlobal> Listing<'a, F> {
         }
     }
 
-    /// Takes over the states of the nodes, as far as they can be had, and answers whether something has changed since
+    /// Takes over the states of the nodes, as far as they can be had, and returns whether something has changed since
     /// the services were listed.
     fn has_changed(&mut self) -> bool
         ensures world { self.new.world ≡ self.old.world }
@@ -81,9 +81,9 @@ impl<'a, F: Files<File = File> + AllocGlobal> Listing<'a, F> {
         }
     }
 
-    /// Prints the services, unless that is what was printed last. Lists for people are apart by an empty line.
+    /// Prints the services, unless that is what was printed last. An empty line parts lists for people.
     ///
-    /// `Failed` where there is no memory, and nothing is printed, or the output refuses, which has a front of it then.
+    /// `Failed` if there is no memory, and nothing is printed; or if the output refuses, which has a prefix then.
     fn list_anew<W: Write>(&mut self, alloc: Global, output: &mut W) -> Result<(), Stop>
         ensures world { self.new.world ≡ self.old.world }
         ensures lists { ListsAnew self.old result (W.contents output.old) (W.contents output.new) }
@@ -99,7 +99,7 @@ impl<'a, F: Files<File = File> + AllocGlobal> Listing<'a, F> {
         }
     }
 
-    /// Prints a list behind what was printed last.
+    /// Prints a list after what was printed last.
     fn print<W: Write>(&mut self, alloc: Global, text: String, output: &mut W) -> Result<(), Stop>
         ensures world { self.new.world ≡ self.old.world }
         ensures prints { PrintsBehind (gap self.old) (string_bytes text) result
@@ -114,7 +114,7 @@ impl<'a, F: Files<File = File> + AllocGlobal> Listing<'a, F> {
         }
     }
 
-    /// A list behind what was printed last.
+    /// Returns a list as it is printed after the last one.
     fn apart(&self, alloc: Global, text: &str) -> Result<String, Stop>
         ensures made { IfOk result (λ shown. string_bytes shown ≡ gap self.now ++ text.now) }
         ensures unmade { IfErr result IsUnmade }
@@ -127,7 +127,7 @@ impl<'a, F: Files<File = File> + AllocGlobal> Listing<'a, F> {
     }
 }
 
-/// What stands between a list and the one before, which is empty before the first one.
+/// Returns what parts a list from the one before. It is empty before the first one.
 fn gap_behind(form: Form, last: &str) -> &'static str
     ensures { result.now ≡ gap_behind form last.now }
 {
@@ -140,7 +140,7 @@ fn gap_behind(form: Form, last: &str) -> &'static str
     }
 }
 
-/// The list of the services of a world.
+/// Returns the list of the services of a world.
 fn listed_in(
     alloc: Global,
     states: &[NodeStatus],
@@ -157,7 +157,7 @@ fn listed_in(
     }
 }
 
-/// The stop where the output refuses.
+/// Returns the stop if the output refuses.
 fn written(written: Result<(), ServeError>) -> Result<(), Stop>
     ensures { result ≡ stop_in written }
 {

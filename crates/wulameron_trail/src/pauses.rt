@@ -1,4 +1,4 @@
-//! Waiting for a short time between two looks at a log.
+//! Waits for a short time between two looks at a log.
 
 use std::thread;
 use std::time::{Clock, Duration};
@@ -6,13 +6,13 @@ use std::time::{Clock, Duration};
 /// How long a pause is, in milliseconds.
 const PAUSE_MILLIS: u64 = 50;
 
-/// How a command waits that goes on.
+/// Waits for a command that goes on.
 pub trait Pauses {
-    /// Waits for a short time. False where the command is to end.
+    /// Waits for a short time. Returns false if the command is to end.
     fn pause(&mut self) -> bool;
 }
 
-/// Sleeps in each pause, and never ends the command: who started it interrupts it, or closes its output.
+/// Sleeps in each pause, and never ends the command: its user interrupts it, or closes its output.
 #[derive(Drop)]
 pub struct Sleeper<R> {
     rt: R,

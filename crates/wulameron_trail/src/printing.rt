@@ -17,18 +17,18 @@ use std::alloc::Global;
 use std::io::{Read, Write};
 use std::ops::ControlFlow;
 
-/// What is left of a log's bytes where its entries were shown.
+/// What is left of a log's bytes after its entries were shown.
 #[derive(Drop)]
 pub enum Rest {
-    /// Nothing, or what a writer leaves that died, or has not written whole yet.
+    /// Nothing, or what a writer leaves that died, or that hasn't written all of it yet.
     Ended,
     /// This mark: the log goes on in another file.
     Moved(Entry),
 }
 
-/// What shows the entries of a log.
+/// Shows the entries of a log.
 pub trait Shows {
-    /// What is shown of an entry, and what becomes of what shows it.
+    /// What is shown of an entry, and what the shower becomes.
     ghost shows: { Self → declared.Entry → List ℕ → Self → Type 0 };
 
     /// Adds what is shown of an entry to a text: lines, or nothing.
@@ -39,7 +39,7 @@ pub trait Shows {
 
 /// Shows an entry. The text is a place to write it in.
 ///
-/// `NotAnswered` where the entry isn't shown, `Failed` by memory or the output, which has taken a front of it then.
+/// `NotAnswered` if the entry isn't shown, `Failed` by memory or the output, which has taken a prefix then.
 pub(crate) fn show_entry<P: Shows, W: Write>(
     entry: &Entry,
     shown: &mut P,
@@ -58,8 +58,7 @@ pub(crate) fn show_entry<P: Shows, W: Write>(
     }
 }
 
-/// Shows the entry of so many bytes with which begins what was read ahead, and gives their number, unless it is a mark:
-/// that ends it.
+/// Shows the entry of this many bytes with which the bytes read ahead begin, and returns their number. A mark ends it.
 fn show_found<P: Shows, W: Write>(
     entry: Entry,
     count: usize,
@@ -85,7 +84,7 @@ fn show_found<P: Shows, W: Write>(
     }
 }
 
-/// Shows the next entry, and gives how many bytes it has, unless it is a mark or there is none: these end it.
+/// Shows the next entry, and returns how many bytes it has. A mark, or no entry, ends it.
 fn show_next<R: Read, P: Shows, W: Write>(
     alloc: Global,
     reader: &mut R,
@@ -108,11 +107,12 @@ fn show_next<R: Read, P: Shows, W: Write>(
     }
 }
 
-/// Shows the entries that a reader has left, and tells what is left after them: nothing, what a writer leaves that died
-/// or has not written whole, or a mark, which isn't shown. The byte goes on by those of the entries that are shown.
+/// Shows the entries that a reader has left, and returns what is left after them: nothing, what a writer leaves that
+/// died or hasn't written all of it yet, or a mark, which isn't shown. It adds to the byte those of the entries that
+/// are shown.
 ///
-/// `Damaged` where what is left is none of these, `NotAnswered` where an entry isn't shown, `Refused` where the reader
-/// answers an error, `Failed` by memory or the output, which has taken a front of what is shown then.
+/// `Damaged` if what is left is none of these, `NotAnswered` if an entry isn't shown, `Refused` if the reader answers
+/// an error, `Failed` by memory or the output, which has then taken a prefix of what is shown.
 pub fn show_rest<R: Read, P: Shows, W: Write>(
     alloc: Global,
     reader: &mut R,

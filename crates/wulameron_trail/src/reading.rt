@@ -17,12 +17,12 @@ use wulameron_place::trouble::Trouble;
 /// How many bytes are read at once.
 const PIECE_LENGTH: usize = 8192;
 
-/// The stop where a call was interrupted, or gave nothing new, 2^64 - 1 times.
+/// The stop after a call was interrupted, or brought nothing new, 2^64 - 1 times.
 pub(crate) const TOO_OFTEN: Stop = Stop::Refused(Trouble::Refused(FileFault::Failed {
     kind: ErrorKind::Interrupted,
 }));
 
-/// Asks the reader once for bytes, and returns how many it gave, or `None` where it was interrupted.
+/// Asks the reader once for bytes, and returns how many it gave, or `None` if it was interrupted.
 fn read_once<R: Read>(reader: &mut R, piece: &mut [u8]) -> Result<Option<usize>, Stop>
     requires { 0 < length piece.old }
     ensures bound { IfOk result (λ given. IfSome given (λ count. count ≤ length piece.new)) }
@@ -51,7 +51,7 @@ fn read_some<R: Read>(reader: &mut R, piece: &mut [u8]) -> Result<usize, Stop>
     Err(TOO_OFTEN)
 }
 
-/// Reads on, and returns how many bytes came: none where the reader has no more.
+/// Reads on, and returns how many bytes it read: none if the reader has no more.
 fn read_on<R: Read>(reader: &mut R, ahead: &mut Ahead) -> Result<usize, Stop>
     ensures unread { (bytes : List ℕ) → IsUnread ahead.old (R.remaining reader.old) bytes
         → OnOk result (IsUnread ahead.new (R.remaining reader.new) bytes) }
@@ -69,7 +69,7 @@ fn read_on<R: Read>(reader: &mut R, ahead: &mut Ahead) -> Result<usize, Stop>
     }
 }
 
-/// What bytes begin with that are all there is up to then.
+/// Returns what bytes begin with if no more than these are written.
 fn front_in(alloc: Global, bytes: &[u8]) -> Result<Front, Stop>
     ensures front { IfOk result (IsFrontIn bytes.now) }
     ensures err { IfErr result IsOfReading }
@@ -80,10 +80,10 @@ fn front_in(alloc: Global, bytes: &[u8]) -> Result<Front, Stop>
     }
 }
 
-/// What the bytes begin with that are left: an entry, which stays read ahead; or all of them are nothing, or what a
-/// writer leaves that died, or has not written whole yet; or damage.
+/// Returns what the bytes that are left begin with: an entry, which stays read ahead; or damage. Or they are all
+/// nothing, or what a writer leaves that died or hasn't written all of it yet.
 ///
-/// `Refused` where the reader answers an error, `Failed` by memory.
+/// `Refused` if the reader answers an error, `Failed` by memory.
 pub(crate) fn next_front<R: Read>(
     alloc: Global,
     reader: &mut R,

@@ -1,4 +1,4 @@
-//! Reading a log by a handle that only looks, wherever the log lies.
+//! Reads a log, wherever it is, by a handle that only looks.
 
 use crate::checker::{Found, LogFault, Verdict};
 use crate::following::Source;
@@ -18,18 +18,18 @@ use std::ops::ControlFlow;
 use wulameron_place::opening::OpenLog;
 use wulameron_place::trouble::Refusing;
 
-/// A log that is read by its handle, which holds it never.
+/// A log that is read by its handle, which never holds it.
 #[derive(Drop)]
 pub struct LogRows<L> {
     log: L,
     counter: u64,
     /// The number of the next entry, from 0 on.
     at: u64,
-    /// Where the next entry would begin in a file, of those that `bytes` read.
+    /// Where the next entry that `bytes` reads would begin in a file.
     byte: u64,
 }
 
-/// The mark that the log goes on in another place.
+/// Returns the mark that the log goes on in another place.
 fn mark() -> Entry {
     Entry {
         node: 0,
@@ -39,7 +39,7 @@ fn mark() -> Entry {
 }
 
 impl<L: Refusing> LogRows<L> {
-    /// Before the first entry of the log.
+    /// Returns a reader before the first entry of the log.
     pub fn new(open: OpenLog<L>) -> LogRows<L> {
         let OpenLog { log, counter } = open;
         LogRows {
@@ -50,7 +50,7 @@ impl<L: Refusing> LogRows<L> {
         }
     }
 
-    /// Why the log refused, where it answered this.
+    /// Returns why the log refused, if it answered this.
     fn stop(&self, error: LogError) -> Stop {
         match error {
             LogError::OutOfMemory => Stop::Failed(ServeError::OutOfMemory),
@@ -69,7 +69,7 @@ impl<L: Refusing> LogRows<L> {
         }
     }
 
-    /// The next entry, which is read, or what there is behind the last one.
+    /// Returns the next entry, or what follows the last one.
     fn next(&mut self) -> Result<ControlFlow<Rest, Entry>, Stop> {
         match self.log.next() {
             Ok(Some(entry)) => {
@@ -83,7 +83,7 @@ impl<L: Refusing> LogRows<L> {
         }
     }
 
-    /// The services after the entries up to there, or after the snapshot alone.
+    /// Returns the services after the entries up to there, or after the snapshot alone.
     fn services_up_to(&mut self, alloc: Global, only_snapshot: bool) -> Result<StoredWorld, Stop> {
         let mut silence = Silence {
             world: StoredWorld::starting_at(alloc, self.counter),
@@ -103,7 +103,7 @@ impl<L: Refusing> LogRows<L> {
         Err(Stop::Failed(ServeError::TooManyTries))
     }
 
-    /// All that stands in the log, as the bytes that it would have in a file.
+    /// Returns all of the log, as the bytes that it would have in a file.
     pub fn bytes(&mut self, alloc: Global) -> Result<Vec<u8>, Stop> {
         self.measure()?;
         let mut entries = Vec::new(alloc);
@@ -126,7 +126,7 @@ impl<L: Refusing> LogRows<L> {
 }
 
 impl<L> LogRows<L> {
-    /// That the next entry is damaged.
+    /// Returns that the next entry is damaged.
     pub fn damage(&self) -> Verdict {
         Verdict::Wrong(Found {
             byte: self.byte,
@@ -148,7 +148,7 @@ fn add_form(alloc: Global, entry: &Entry, bytes: &mut Vec<u8>) -> Result<(), Sto
     }
 }
 
-/// A log's bytes: a header without a name, and those of its entries.
+/// Returns a log's bytes: a header without a name, and those of its entries.
 fn whole_log(
     alloc: Global,
     counter: u64,

@@ -1,4 +1,4 @@
-//! What shows the entries of a log: lines, what they change, or nothing.
+//! Shows the entries of a log: lines, what they change, or nothing.
 
 ghost use Rattle.std.specs.Prelude.{◌≡◌, ◌++◌, ℕ, List, [], OnOk, string_bytes};
 ghost use Rattle.iceoryx2_journal.specs.Follow.{IsFollowed};
@@ -74,7 +74,7 @@ fn write_change(is_json: bool, change: Option<Change>, text: &mut String) -> Res
     }
 }
 
-/// What following an entry comes to.
+/// Returns what following an entry comes to.
 pub(crate) fn follow_entry(
     alloc: Global,
     world: &mut StoredWorld,

@@ -10,9 +10,9 @@ use wulameron_place::trouble::Trouble;
 /// Why no more of a log is shown.
 #[derive(Clone, Copy)]
 pub enum Stop {
-    /// What stands there is no entry, and nothing that a writer leaves that died.
+    /// There is no entry, and nothing that a dead writer leaves.
     Damaged,
-    /// The entry isn't what the services before it answer.
+    /// The services before the entry don't answer what it says.
     NotAnswered,
     /// The log's file or database refused.
     Refused(Trouble),
@@ -25,7 +25,7 @@ pub enum Stop {
 pub enum ShowError {
     /// There was no memory.
     OutOfMemory,
-    /// The entry isn't what the services before it answer.
+    /// The services before the entry don't answer what it says.
     NotAnswered,
 }
 
@@ -39,7 +39,7 @@ impl From<AllocError> for ShowError {
     }
 }
 
-/// The stop at an entry that isn't shown.
+/// Returns the stop at an entry that isn't shown.
 pub(crate) fn stop_at(error: ShowError) -> Stop
     ensures { result ≡ stop_of error }
 {

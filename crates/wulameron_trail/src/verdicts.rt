@@ -8,9 +8,9 @@ use crate::checker::{Ending, Found, LogFault, Verdict};
 use iceoryx2_file_log::header::HeaderError;
 use std::alloc::{AllocError, Global};
 
-/// Writes the line of what a log is: how many entries and bytes are sound, and what stands after them; or where the
-/// first thing is that is wrong, by byte and entry, what it is, and what can be done. `AllocError` where there is no
-/// memory; a front of the line may then be written.
+/// Writes the line of what a log is: how many entries and bytes are sound, and what follows them. If something is
+/// wrong, it writes where the first thing is, by byte and entry, what it is, and what can be done. `AllocError` if
+/// there is no memory; a prefix of the line may then be written.
 pub fn verdict_text(verdict: Verdict, text: &mut String) -> Result<(), AllocError>
     ensures { OnOk result (string_bytes text.new ≡ string_bytes text.old ++ verdict_line verdict) }
 {
@@ -39,7 +39,7 @@ fn write_found(found: Found, text: &mut String) -> Result<(), AllocError>
     )
 }
 
-/// Writes what stands after the entries.
+/// Writes what follows the entries.
 fn write_ending(ending: Ending, text: &mut String) -> Result<(), AllocError>
     ensures { OnOk result (string_bytes text.new ≡ string_bytes text.old ++ ending_text ending) }
 {
@@ -55,7 +55,7 @@ fn write_ending(ending: Ending, text: &mut String) -> Result<(), AllocError>
     }
 }
 
-/// What is wrong.
+/// Returns what is wrong.
 fn words_of(alloc: Global, wrong: LogFault) -> Result<String, AllocError>
     ensures { IfOk result (λ text. string_bytes text ≡ wrong_text wrong) }
 {
@@ -82,7 +82,7 @@ fn words_of(alloc: Global, wrong: LogFault) -> Result<String, AllocError>
     }
 }
 
-/// What can be done about it.
+/// Returns what can be done about it.
 fn remedy(wrong: LogFault) -> &'static str
     ensures { result.now ≡ remedy_text wrong }
 {

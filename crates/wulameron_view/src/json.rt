@@ -1,4 +1,4 @@
-//! Values of JSON that both texts are made of.
+//! Values of JSON from which both texts are made.
 
 ghost use Rattle.std.specs.Prelude.{◌≡◌, ◌++◌, IfOk, OnOk, false, string_bytes};
 ghost use Rattle.serde_json.specs.View.{view};
@@ -23,7 +23,7 @@ pub(crate) fn write_value(value: &Value, text: &mut String) -> Result<(), AllocE
     writeln!(text, "{json}")
 }
 
-/// A service and who is in it.
+/// Returns the value of a service and the nodes that are in it.
 pub(crate) fn service_value(
     alloc: Global,
     states: &[NodeStatus],
@@ -48,7 +48,7 @@ pub(crate) fn service_value(
     })
 }
 
-/// A number, or `null`.
+/// Returns a number, or `null`.
 pub(crate) fn count_value(count: Option<u64>) -> Value
     ensures { view result ≡ count_or_null count }
 {
@@ -58,7 +58,7 @@ pub(crate) fn count_value(count: Option<u64>) -> Value
     }
 }
 
-/// The nodes in a service.
+/// Returns the nodes in a service.
 fn members_value(
     alloc: Global,
     states: &[NodeStatus],
@@ -73,7 +73,7 @@ fn members_value(
     Ok(Value::Array(values))
 }
 
-/// A node in a service.
+/// Returns a node in a service.
 fn member_value(alloc: Global, states: &[NodeStatus], member: &Member) -> Result<Value, AllocError>
     ensures { IfOk result (λ v. view v ≡ member_data states.now member.now) }
 {
@@ -87,7 +87,7 @@ fn member_value(alloc: Global, states: &[NodeStatus], member: &Member) -> Result
     })
 }
 
-/// Whether a node is alive, and `null` for one that was never claimed.
+/// Returns whether a node is alive, or `null` for a node that was never claimed.
 pub(crate) fn alive_value(state: NodeState) -> Value
     ensures { view result ≡ alive_data state }
 {
@@ -98,7 +98,7 @@ pub(crate) fn alive_value(state: NodeState) -> Value
     }
 }
 
-/// Whether a node is alive, in a word of JSON.
+/// Returns the word of JSON for whether a node is alive.
 fn word_of_state(state: NodeState) -> &'static str
     ensures { result.now ≡ state_data state }
 {
@@ -109,7 +109,7 @@ fn word_of_state(state: NodeState) -> &'static str
     }
 }
 
-/// The pattern as a word.
+/// Returns the word for the pattern.
 fn word_of(pattern: &MessagingPattern) -> &'static str
     ensures { result.now ≡ pattern_word pattern.now }
 {

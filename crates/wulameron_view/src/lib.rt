@@ -1,16 +1,16 @@
 //! The commands `list`, `show` and `nodes` of `wulameron`, and what they print: texts for people and for programs.
 //!
 //! `services::services_of` lists each published service of a world once, by its name, its pattern and its hash, and
-//! those that are being created (`AreServicesOf`). Which of them are listed is exact (`AreThose`). The table, all that is
-//! known of one service, and both as JSON are exactly their definitions (`list_text`, `show_text`, `list_json`,
-//! `show_json`). `states::standings` tells dead nodes from ended ones: by whether something of the node is left in the
+//! those that are being created (`AreServicesOf`). Which of them are listed is exact (`AreThose`). The table, all that
+//! is known of one service, and both as JSON are exactly their definitions (`list_text`, `show_text`, `list_json`,
+//! `show_json`). `states::standings` tells dead nodes from ended ones, by whether something of the node is left in the
 //! world (`AreStandings`).
 //!
-//! `looking::print_list`, `print_show` and `print_nodes`, over any log: either all that others appended was taken over,
-//! and exactly the text of the world then is written, or a front of it where the output refuses; or not all was, and
-//! nothing is written. `show` prints a service only where it is the one that is wanted, and there is none, or there
-//! are several, only where that is so (`LooksAt`, `IsListed`, `IsShown`, `IsUnshown`, `AreNodes`). The status follows
-//! (`EndsLook`). Of `list`, `show` and `nodes`, which open the file, only that they are safe is proved.
+//! `looking::print_list`, `print_show` and `print_nodes` are over any log. Either all that others appended was taken
+//! over, and exactly the text of the world then is written, or a prefix of it if the output refuses; or not all was
+//! taken over, and nothing is written. `show` prints a service only if it is the wanted one. It tells that there is
+//! none, or that there are several, only if this is so (`LooksAt`, `IsListed`, `IsShown`, `IsUnshown`, `AreNodes`). The
+//! status follows (`EndsLook`). Of `list`, `show` and `nodes`, which open the file, only safety is proved.
 #![tactic(auto)]
 
 mod json;

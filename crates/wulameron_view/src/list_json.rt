@@ -11,8 +11,8 @@ use iceoryx2_monitoring::state::NodeStatus;
 use serde_json::{Value, json};
 use std::alloc::{AllocError, Global};
 
-/// Writes an array of the services, in the order of the table, as one line without a space; docs/CLI.md has the keys. A
-/// node is alive where its state is among these. `AllocError` where there is no memory.
+/// Writes an array of the services, in the order of the table, as one line without a space; docs/CLI.md has the keys.
+/// These states tell whether a node is alive. `AllocError` if there is no memory.
 pub fn list_json(
     states: &[NodeStatus],
     services: &Services,
@@ -25,8 +25,8 @@ pub fn list_json(
     write_value(&value, text)
 }
 
-/// Writes an object for each service, in the same order, a line each. `AllocError` where there is no memory; a front of
-/// it may then be written.
+/// Writes an object for each service, in the same order, a line each. `AllocError` if there is no memory; a prefix may
+/// then be written.
 pub fn list_json_lines(
     states: &[NodeStatus],
     services: &Services,
@@ -86,7 +86,7 @@ fn write_creation(creation: &Creation, text: &mut String) -> Result<(), AllocErr
     write_value(&value, text)
 }
 
-/// The array.
+/// Returns the array.
 fn list_value(
     alloc: Global,
     states: &[NodeStatus],
@@ -131,7 +131,7 @@ fn add_creations(
     Ok(())
 }
 
-/// A service that is being created.
+/// Returns the value of a service that is being created.
 fn creation_value(alloc: Global, creation: &Creation) -> Result<Value, AllocError>
     ensures { IfOk result (λ v. view v ≡ creation_data creation.now) }
 {

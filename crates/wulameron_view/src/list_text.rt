@@ -33,7 +33,7 @@ struct Line {
     nodes: String,
     creator: String,
     number: String,
-    /// How many of its nodes are dead, where some are.
+    /// How many of its nodes are dead, if any are.
     mark: String,
 }
 
@@ -76,7 +76,7 @@ struct Widths {
 }
 
 impl Line {
-    /// The line's cell in a column.
+    /// Returns the line's cell in a column.
     fn cell(&self, column: Column) -> &str
         ensures { result.now ≡ cell_of column self.now }
     {
@@ -90,7 +90,7 @@ impl Line {
         }
     }
 
-    /// The names of the columns.
+    /// Returns the names of the columns.
     fn header(alloc: Global) -> Result<Line, AllocError>
         ensures { IfOk result (λ line. line ≡ header) }
     {
@@ -104,7 +104,7 @@ impl Line {
         })
     }
 
-    /// The line of a service that is published.
+    /// Returns the line of a service that is published.
     fn of_service(
         alloc: Global,
         states: &[NodeStatus],
@@ -125,7 +125,7 @@ impl Line {
         })
     }
 
-    /// The line of a service that is being created.
+    /// Returns the line of a service that is being created.
     fn of_creation(
         alloc: Global,
         states: &[NodeStatus],
@@ -146,10 +146,11 @@ impl Line {
 }
 
 /// Writes the services as a table: a header, a line for each service, those that are being created last, and how many
-/// they are; and where nodes of some are dead how many these are, and what gives back what such nodes have. Columns are
-/// two spaces apart, and as wide as their widest cell in columns of a terminal. Names are cut so that a line has at most
-/// so many columns, where that is asked for, but not to fewer than eight. Where colours are asked for, what has dead
-/// nodes is red. `AllocError` where there is no memory; a front of it may then be written.
+/// there are. If nodes of some are dead, it also writes how many services have dead nodes, and the command that
+/// releases what such nodes have. Columns are two spaces apart, and as wide as their widest cell in columns of a
+/// terminal. If a width is asked for, names are cut so that a line has at most this many columns, but to no fewer than
+/// eight. If colours are asked for, what has dead nodes is red. `AllocError` if there is no memory; a prefix may then
+/// be written.
 pub fn list_text(
     is_coloured: bool,
     most: Option<u64>,
@@ -178,14 +179,14 @@ fn write_counts(
     write_dead(dead_services(states, services), text)
 }
 
-/// How many services have dead nodes.
+/// Returns how many services have dead nodes.
 fn dead_services(states: &[NodeStatus], services: &Services) -> usize
     ensures { result ≡ with_dead states.now services.now }
 {
     dead_published(states, &services.published) + dead_creations(states, &services.creations)
 }
 
-/// How many published services have dead nodes.
+/// Returns how many published services have dead nodes.
 fn dead_published(states: &[NodeStatus], services: &[Service]) -> usize
     ensures is { result ≡ dead_published states.now services.now }
     ensures bound { result ≤ length services.now }
@@ -196,7 +197,7 @@ fn dead_published(states: &[NodeStatus], services: &[Service]) -> usize
         .count()
 }
 
-/// Of how many services that are being created the holder is dead.
+/// Returns how many services that are being created have a dead holder.
 fn dead_creations(states: &[NodeStatus], creations: &[Creation]) -> usize
     ensures is { result ≡ dead_creations states.now creations.now }
     ensures bound { result ≤ length creations.now }
@@ -207,7 +208,7 @@ fn dead_creations(states: &[NodeStatus], creations: &[Creation]) -> usize
         .count()
 }
 
-/// Writes that so many services have dead nodes, where there are some.
+/// Writes that this many services have dead nodes, if there are any.
 fn write_dead(count: usize, text: &mut String) -> Result<(), AllocError>
     ensures { OnOk result (string_bytes text.new ≡ string_bytes text.old ++ dead_line count) }
 {
@@ -220,7 +221,7 @@ fn write_dead(count: usize, text: &mut String) -> Result<(), AllocError>
     )
 }
 
-/// The cells of all lines.
+/// Returns the cells of all lines.
 fn lines_of(
     alloc: Global,
     states: &[NodeStatus],
@@ -281,7 +282,7 @@ fn write_lines(
     Ok(())
 }
 
-/// How wide each column of these lines is.
+/// Returns how wide each column of these lines is.
 fn widths_of(lines: &[Line]) -> Widths
     ensures { result ≡ widths_of_spec lines.now }
 {
@@ -295,7 +296,7 @@ fn widths_of(lines: &[Line]) -> Widths
     }
 }
 
-/// These widths, with names cut so that a line has at most so many columns.
+/// Returns these widths, with names cut so that a line has at most this many columns.
 fn fitted(most: Option<u64>, widths: Widths) -> Widths
     ensures { result ≡ fitted_of most widths }
 {
@@ -308,7 +309,7 @@ fn fitted(most: Option<u64>, widths: Widths) -> Widths
     }
 }
 
-/// How many of so many columns the other columns leave for names.
+/// Returns how many columns of a line the other columns leave for names.
 fn room_for(most: u64, widths: Widths) -> usize
     ensures { result ≡ room_for most widths }
 {
@@ -345,7 +346,7 @@ fn write_cells(widths: Widths, line: &Line, text: &mut String) -> Result<(), All
     write_cell(line.cell(Column::Creator), widths.creator, text)
 }
 
-/// Writes what stands behind them.
+/// Writes what follows them.
 fn write_rest(is_coloured: bool, line: &Line, text: &mut String) -> Result<(), AllocError>
     ensures { OnOk result (string_bytes text.new ≡ string_bytes text.old ++ rest_of_line is_coloured line.now) }
 {
@@ -362,7 +363,7 @@ fn write_cell(cell: &str, width: usize, text: &mut String) -> Result<(), AllocEr
     text.push_str("  ")
 }
 
-/// Writes a name, which is cut where its column is narrower.
+/// Writes a name, which is cut if its column is narrower.
 fn write_name(name: &str, width: usize, text: &mut String) -> Result<(), AllocError>
     ensures { OnOk result (string_bytes text.new ≡ string_bytes text.old ++ name_text width name.now) }
 {
@@ -370,7 +371,7 @@ fn write_name(name: &str, width: usize, text: &mut String) -> Result<(), AllocEr
     write_cell(&cut, width, text)
 }
 
-/// The width of a column's widest cell.
+/// Returns the width of a column's widest cell.
 fn widest(lines: &[Line], column: Column) -> usize
     ensures { result ≡ width_of (cell_of column) lines.now }
 {
@@ -383,8 +384,8 @@ fn widest(lines: &[Line], column: Column) -> usize
 
 // ---- names alone
 
-/// Writes the name of each service that is published, a line each, without control characters. `AllocError` where there
-/// is no memory; a front of it may then be written.
+/// Writes the name of each service that is published, a line each, without control characters. `AllocError` if there is
+/// no memory; a prefix may then be written.
 pub fn list_names(services: &Services, text: &mut String) -> Result<(), AllocError>
     ensures { OnOk result (string_bytes text.new ≡ string_bytes text.old ++ names_text services.now) }
 {
@@ -404,7 +405,7 @@ fn write_names(services: &[Service], text: &mut String) -> Result<(), AllocError
 
 // ---- cells
 
-/// The term by which a pattern's command lines begin.
+/// Returns the term by which a pattern's command lines begin.
 pub fn term_of(pattern: &MessagingPattern) -> &'static str
     ensures { result.now ≡ pattern_term pattern.now }
 {
@@ -415,7 +416,7 @@ pub fn term_of(pattern: &MessagingPattern) -> &'static str
     }
 }
 
-/// How many of how many.
+/// Returns the text of a count and its limit.
 fn ratio(alloc: Global, count: usize, most: u64) -> Result<String, AllocError>
     ensures { IfOk result (λ text. string_bytes text ≡ decimal count ++ (codes "/" ++ decimal most)) }
 {
@@ -424,7 +425,7 @@ fn ratio(alloc: Global, count: usize, most: u64) -> Result<String, AllocError>
     Ok(text)
 }
 
-/// A node, or a dash where none is known.
+/// Returns a node, or a dash if none is known.
 fn node_text(alloc: Global, node: Option<u64>) -> Result<String, AllocError>
     ensures { IfOk result (λ text. string_bytes text ≡ node_or_dash node) }
 {
@@ -434,7 +435,7 @@ fn node_text(alloc: Global, node: Option<u64>) -> Result<String, AllocError>
     }
 }
 
-/// A number, and what stands after it.
+/// Returns a number, and what follows it.
 fn number_text(alloc: Global, number: u64, after: &str) -> Result<String, AllocError>
     ensures { IfOk result (λ text. string_bytes text ≡ decimal number ++ after.now) }
 {
@@ -443,7 +444,7 @@ fn number_text(alloc: Global, number: u64, after: &str) -> Result<String, AllocE
     Ok(text)
 }
 
-/// That so many nodes are dead, where some are.
+/// Returns the mark that this many nodes are dead, if any are.
 fn mark(alloc: Global, dead: usize) -> Result<String, AllocError>
     ensures { IfOk result (λ text. string_bytes text ≡ dead_mark dead) }
 {

@@ -1,4 +1,4 @@
-//! Which services there are over a journal, and what was agreed of one: nothing is claimed, made or appended.
+//! Prints which services there are over a journal, and what was agreed for one. Nothing is claimed, made or appended.
 
 ghost use Rattle.std.specs.Prelude.{◌≡◌, IfErr, IfOk, string_bytes};
 ghost use Rattle.std.specs.List.{filter};
@@ -29,17 +29,17 @@ use wulameron_arguments::asked::{Filter, Form, Listed, Pattern, Shown, Wanted};
 use wulameron_place::reading::take_over;
 use wulameron_place::trouble::Refusing;
 
-/// The status where what was asked for isn't there, or is refused.
+/// The status if what was asked for isn't there, or is refused.
 pub const REFUSED: u8 = 1;
 
 /// Why nothing, or not all, is printed.
 #[derive(Clone, Copy)]
 pub enum LookError {
-    /// The log can't be held or read, or not be followed.
+    /// The log can't be held or read, or its entries can't be followed.
     Unread,
     /// No service is the wanted one.
     NoService,
-    /// Several services are.
+    /// Several services are wanted ones.
     SeveralServices,
     /// The output refused, or there was no memory.
     Failed(ServeError),
@@ -56,7 +56,7 @@ impl From<AllocError> for LookError {
     }
 }
 
-/// The status with which a look ends: 0, 1 where not one service is the wanted one, and else 3.
+/// Returns the status with which a look ends: 0, 1 if there is not exactly one wanted service, and 3 otherwise.
 pub fn status_of_look(looked: Result<(), LookError>) -> u8
     ensures { result ≡ look_status looked }
 {
@@ -71,7 +71,7 @@ pub fn status_of_look(looked: Result<(), LookError>) -> u8
 
 // ---- which one
 
-/// Whether the pattern is this one.
+/// Returns whether the pattern is this one.
 fn is_of_pattern(wanted: Pattern, pattern: &MessagingPattern) -> bool
     ensures { result ≡ is_of wanted pattern.now }
 {
@@ -83,7 +83,7 @@ fn is_of_pattern(wanted: Pattern, pattern: &MessagingPattern) -> bool
     }
 }
 
-/// Whether the service is the wanted one.
+/// Returns whether the service is the wanted one.
 fn is_wanted(wanted: Wanted<'_>, service: &Service) -> bool
     ensures { result ≡ is_wanted_spec wanted.entry service.now }
 {
@@ -97,7 +97,7 @@ fn is_wanted(wanted: Wanted<'_>, service: &Service) -> bool
     }
 }
 
-/// Leaves those that are wanted, in their order.
+/// Keeps those that are wanted, in their order.
 fn keep_wanted(wanted: Wanted<'_>, services: &mut Vec<Service>)
     ensures { services.new.items ≡ filter (is_wanted_spec wanted.entry) services.old.items }
 {
@@ -106,14 +106,14 @@ fn keep_wanted(wanted: Wanted<'_>, services: &mut Vec<Service>)
 
 // ---- which ones
 
-/// Whether a part stands in a name.
+/// Returns whether a name has this part.
 fn has_part(name: &str, part: &str) -> bool
     ensures { result ≡ has_part name.now part.now }
 {
     name.contains(part)
 }
 
-/// Whether the service is asked for.
+/// Returns whether the service is asked for.
 fn passes(filter: Filter<'_>, service: &Service) -> bool
     ensures { result ≡ passes filter.entry service.now }
 {
@@ -128,14 +128,14 @@ fn passes(filter: Filter<'_>, service: &Service) -> bool
     is_named && is_of
 }
 
-/// Whether neither a text nor a pattern is asked for.
+/// Returns whether neither a text nor a pattern is asked for.
 fn is_open(filter: Filter<'_>) -> bool
     ensures { result ≡ is_open filter.entry }
 {
     filter.text.is_none() && filter.pattern.is_none()
 }
 
-/// Leaves those that are asked for, in their order.
+/// Keeps those that are asked for, in their order.
 fn keep_listed(filter: Filter<'_>, services: Services) -> Services
     ensures { AreThose filter.entry services result }
 {
@@ -155,7 +155,7 @@ fn keep_listed(filter: Filter<'_>, services: Services) -> Services
 
 // ---- the texts
 
-/// What is printed of these services.
+/// Returns what is printed of these services.
 fn list_all(
     alloc: Global,
     states: &[NodeStatus],
@@ -182,7 +182,7 @@ fn list_all(
     Ok(text)
 }
 
-/// What is printed of the services of a world. `Failed(OutOfMemory)` where there is no memory.
+/// Returns what is printed of the services of a world. `Failed(OutOfMemory)` if there is no memory.
 pub fn list_in(
     alloc: Global,
     states: &[NodeStatus],
@@ -197,7 +197,7 @@ pub fn list_in(
     Ok(list_all(alloc, states, &services, listed)?)
 }
 
-/// What is printed of a service.
+/// Returns what is printed of a service.
 fn show_one(
     alloc: Global,
     states: &[NodeStatus],
@@ -214,9 +214,9 @@ fn show_one(
     Ok(text)
 }
 
-/// What is printed of the wanted service of a world: lines, or JSON. Of the nodes these states are known.
+/// Returns what is printed of the wanted service of a world: lines, or JSON. These are the known states of nodes.
 ///
-/// `NoService` and `SeveralServices` where not one is wanted, `Failed(OutOfMemory)` where there is no memory.
+/// `NoService` and `SeveralServices` if there is not exactly one, `Failed(OutOfMemory)` if there is no memory.
 pub fn show_in(
     alloc: Global,
     states: &[NodeStatus],
@@ -236,7 +236,7 @@ pub fn show_in(
     }
 }
 
-/// What is printed of these nodes.
+/// Returns what is printed of these nodes.
 fn nodes_all(alloc: Global, nodes: &[NodeStanding], shown: Shown) -> Result<String, AllocError>
     ensures { IfOk result (λ text. string_bytes text ≡ nodes_text_of shown.is_coloured shown.form nodes.now) }
 {
@@ -250,7 +250,7 @@ fn nodes_all(alloc: Global, nodes: &[NodeStanding], shown: Shown) -> Result<Stri
     Ok(text)
 }
 
-/// What is printed of these nodes, as they stand in a world. `Failed(OutOfMemory)` where there is no memory.
+/// Returns what is printed of these nodes in a world. `Failed(OutOfMemory)` if there is no memory.
 fn nodes_in(
     alloc: Global,
     states: &[NodeStatus],
@@ -264,9 +264,9 @@ fn nodes_in(
     Ok(nodes_all(alloc, &nodes, shown)?)
 }
 
-/// Writes a text that was made on the output. Where it wasn't made, nothing is written, and the reason is the same.
+/// Writes a text that was made on the output. If it wasn't made, it writes nothing and returns the reason.
 ///
-/// `Failed` where the output refuses; it has a front of the text then.
+/// `Failed` if the output refuses; it has a prefix of the text then.
 pub fn print<W: Write>(made: Result<String, LookError>, output: &mut W) -> Result<(), LookError>
     ensures written { IfOk made (λ text. WritesMade (string_bytes text) result
         (W.contents output.old) (W.contents output.new)) }
@@ -283,11 +283,10 @@ pub fn print<W: Write>(made: Result<String, LookError>, output: &mut W) -> Resul
 
 // ---- over a journal
 
-/// Takes over what others had appended, and prints which services there are then, in this form. Of the nodes these
-/// states are known.
+/// Takes over what others have appended, and then prints which services there are, in this form. These are the known
+/// states of nodes.
 ///
-/// `Unread` where not all can be taken over, and nothing is printed; `Failed` where the output refuses, or there is no
-/// memory.
+/// `Unread` if not all can be taken over: nothing is printed. `Failed` if the output refuses, or there is no memory.
 pub fn print_list<L: Refusing, W: Write>(
     alloc: Global,
     journal: &mut Journal<L>,
@@ -304,10 +303,10 @@ pub fn print_list<L: Refusing, W: Write>(
     print(list_in(alloc, states, journal.world(), listed), output)
 }
 
-/// Takes over what others had appended, and prints all that is known of the wanted service then, in this form.
+/// Takes over what others have appended, and then prints all that is known of the wanted service, in this form.
 ///
-/// `Unread` where not all can be taken over, `NoService` and `SeveralServices` where not one is wanted, and nothing is
-/// printed; `Failed` where the output refuses, or there is no memory.
+/// `Unread` if not all can be taken over, `NoService` and `SeveralServices` if there is not exactly one: nothing is
+/// printed. `Failed` if the output refuses, or there is no memory.
 pub fn print_show<L: Refusing, W: Write>(
     alloc: Global,
     journal: &mut Journal<L>,
@@ -329,10 +328,9 @@ pub fn print_show<L: Refusing, W: Write>(
     )
 }
 
-/// Takes over what others had appended, and prints each of the nodes of these states, and how it stands then.
+/// Takes over what others have appended, and then prints each of these nodes, and whether it is alive, dead or ended.
 ///
-/// `Unread` where not all can be taken over, and nothing is printed; `Failed` where the output refuses, or there is no
-/// memory.
+/// `Unread` if not all can be taken over: nothing is printed. `Failed` if the output refuses, or there is no memory.
 pub fn print_nodes<L: Refusing, W: Write>(
     alloc: Global,
     journal: &mut Journal<L>,

@@ -11,8 +11,8 @@ use crate::states::{NodeStanding, Standing};
 use serde_json::{Value, json};
 use std::alloc::{AllocError, Global};
 
-/// Writes an array of the nodes, in their order, as one line without a space; docs/CLI.md has the keys. `AllocError`
-/// where there is no memory.
+/// Writes an array of the nodes, in their order, as one line without a space; docs/CLI.md has the keys. `AllocError` if
+/// there is no memory.
 pub fn nodes_json(nodes: &[NodeStanding], text: &mut String) -> Result<(), AllocError>
     ensures { OnOk result (string_bytes text.new ≡ string_bytes text.old ++ json_line (nodes_data nodes.now)) }
 {
@@ -20,7 +20,7 @@ pub fn nodes_json(nodes: &[NodeStanding], text: &mut String) -> Result<(), Alloc
     write_value(&value, text)
 }
 
-/// The array.
+/// Returns the array.
 fn nodes_value(alloc: Global, nodes: &[NodeStanding]) -> Result<Value, AllocError>
     ensures { IfOk result (λ v. view v ≡ nodes_data nodes.now) }
 {
@@ -31,8 +31,8 @@ fn nodes_value(alloc: Global, nodes: &[NodeStanding]) -> Result<Value, AllocErro
     Ok(Value::Array(values))
 }
 
-/// Writes an object for each node, in their order, a line each. `AllocError` where there is no memory; a front of it may
-/// then be written.
+/// Writes an object for each node, in their order, a line each. `AllocError` if there is no memory; a prefix may then
+/// be written.
 pub fn nodes_json_lines(nodes: &[NodeStanding], text: &mut String) -> Result<(), AllocError>
     ensures { OnOk result (string_bytes text.new
         ≡ string_bytes text.old ++ flat_map (λ n. json_line (node_data n)) nodes.now) }
@@ -59,7 +59,7 @@ fn node_value(alloc: Global, node: NodeStanding) -> Result<Value, AllocError>
     json!(in alloc; {"alive": alive, "node": node.node, "state": state})
 }
 
-/// Whether a node that stands so is alive, and `null` for one that was never claimed.
+/// Returns whether a node of this standing is alive, or `null` for a node that was never claimed.
 fn alive_value(standing: Standing) -> Value
     ensures { view result ≡ standing_alive standing }
 {
@@ -70,7 +70,7 @@ fn alive_value(standing: Standing) -> Value
     }
 }
 
-/// How a node stands, in a word of JSON.
+/// Returns the word of JSON for a node's standing.
 fn word_of(standing: Standing) -> &'static str
     ensures { result.now ≡ standing_data standing }
 {

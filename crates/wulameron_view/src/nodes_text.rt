@@ -8,8 +8,8 @@ use crate::states::{NodeStanding, Standing, word_of_standing};
 use crate::table::write_red;
 use std::alloc::AllocError;
 
-/// Writes a line for each node, in their order: its number, and how it stands. `AllocError` where there is no memory; a
-/// front of it may then be written.
+/// Writes a line for each node, in their order: its number and its standing. `AllocError` if there is no memory; a
+/// prefix may then be written.
 pub fn nodes_text(
     is_coloured: bool,
     nodes: &[NodeStanding],
@@ -38,7 +38,7 @@ fn write_node(is_coloured: bool, found: NodeStanding, text: &mut String) -> Resu
     text.push_str("\n")
 }
 
-/// Whether something of a node that stands so is left.
+/// Returns whether something of a node of this standing is left.
 fn is_left(standing: Standing) -> bool
     ensures { result ≡ is_left standing }
 {
@@ -48,8 +48,7 @@ fn is_left(standing: Standing) -> bool
     }
 }
 
-/// Writes the number of each node, a line each. `AllocError` where there is no memory; a front of it may then be
-/// written.
+/// Writes the number of each node, a line each. `AllocError` if there is no memory; a prefix may then be written.
 pub fn node_numbers(nodes: &[NodeStanding], text: &mut String) -> Result<(), AllocError>
     ensures { OnOk result (string_bytes text.new ≡ string_bytes text.old ++ flat_map number_line nodes.now) }
 {

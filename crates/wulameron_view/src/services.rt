@@ -1,4 +1,4 @@
-//! Which services there are in a world, and who is in them.
+//! Which services there are in a world, and which nodes are in them.
 
 ghost use Rattle.std.specs.Prelude.{◌≡◌, ◌||◌, IfOk, OnOk};
 ghost use Rattle.std.specs.FinMap as map;
@@ -39,7 +39,7 @@ pub struct Service {
     pub members: Vec<Member>,
 }
 
-// Written out, so that a proof of what lets one go doesn't take its fields apart.
+// It is written out, so that proofs of what lets one go don't pay for each field.
 impl Drop for Service {
     fn drop(self) {
         let Service {
@@ -52,7 +52,7 @@ impl Drop for Service {
     }
 }
 
-/// A service that is being created: nothing but its hash and its number is known.
+/// A service that is being created. Only its hash and its number are known.
 #[derive(Clone, Copy)]
 pub struct Creation {
     pub hash: ServiceHash,
@@ -70,9 +70,9 @@ pub struct Services {
     pub creations: Vec<Creation>,
 }
 
-/// The services of a world, each once. A row whose bytes are no description, which a world that agrees doesn't have, is
-/// left out, and so is one without a segment beside it: its last node has left, and is removing it. Peers, which a
-/// world of a log doesn't have, are left out of who is in a service. `AllocError` where there is no memory.
+/// Returns the services of a world, each once. It leaves out a row whose bytes are no description, which a world that
+/// agrees doesn't have. It leaves out a row without a segment: its last node has left, and is removing it. Peers, which
+/// a world of a log doesn't have, aren't among the nodes in a service. `AllocError` if there is no memory.
 pub fn services_of(alloc: Global, world: &StoredWorld) -> Result<Services, AllocError>
     ensures { IfOk result (AreServicesOf world.now) }
 {
@@ -85,7 +85,7 @@ pub fn services_of(alloc: Global, world: &StoredWorld) -> Result<Services, Alloc
     })
 }
 
-/// Puts services in order.
+/// Sorts services.
 fn sort(services: &mut Vec<Service>) -> Result<(), AllocError>
     ensures same { IsPermutation services.old.items services.new.items }
     ensures ordered { OnOk result (IsSorted service_cmp services.new.items) }
@@ -93,7 +93,7 @@ fn sort(services: &mut Vec<Service>) -> Result<(), AllocError>
     services.sort_by(|a, b| compare(a, b))
 }
 
-/// The published services, in the order of their hashes.
+/// Returns the published services, in the order of their hashes.
 fn published_of(alloc: Global, world: &StoredWorld) -> Result<Vec<Service>, AllocError>
     ensures { IfOk result (λ services. AreServices world.now (map.entries world.now.rows) services.items) }
 {
@@ -107,7 +107,7 @@ fn published_of(alloc: Global, world: &StoredWorld) -> Result<Vec<Service>, Allo
     Ok(found)
 }
 
-/// The service of a row, where it has one.
+/// Returns the service of a row, if it has one.
 fn service_of(
     alloc: Global,
     world: &StoredWorld,
@@ -129,7 +129,7 @@ fn service_of(
     }
 }
 
-/// The service of this description, and who is in its segment.
+/// Returns the service of this description, and the nodes in its segment.
 fn described(
     alloc: Global,
     world: &StoredWorld,
@@ -155,7 +155,7 @@ fn described(
     })
 }
 
-/// The nodes among the participants of a service, with how many factories each has.
+/// Returns the nodes among the participants of a service, with how many factories each has.
 fn members(
     alloc: Global,
     world: &StoredWorld,
@@ -177,7 +177,7 @@ fn members(
     Ok(members)
 }
 
-/// How many factories a node of this phase has.
+/// Returns how many factories a node of this phase has.
 fn factories(phase: Phase) -> u64
     ensures { result ≡ join_count phase }
 {
@@ -187,7 +187,7 @@ fn factories(phase: Phase) -> u64
     }
 }
 
-/// By name, pattern and hash.
+/// Compares by name, pattern and hash.
 fn compare(one: &Service, other: &Service) -> Ordering
     ensures { result ≡ service_cmp one.now other.now }
 {
@@ -198,7 +198,7 @@ fn compare(one: &Service, other: &Service) -> Ordering
     ours.cmp(theirs).then(pattern.cmp(&other_pattern).then(one.hash.cmp(&other.hash)))
 }
 
-/// Where the services of a pattern stand among those of one name.
+/// Returns the place of a pattern's services among those of one name.
 fn rank(pattern: &MessagingPattern) -> u8
     ensures { result ≡ rank_of pattern.now }
 {
@@ -209,7 +209,7 @@ fn rank(pattern: &MessagingPattern) -> u8
     }
 }
 
-/// The services that are being created, in the order of their hashes.
+/// Returns the services that are being created, in the order of their hashes.
 fn creations_of(alloc: Global, world: &StoredWorld) -> Result<Vec<Creation>, AllocError>
     ensures { IfOk result (λ creations.
         creations.items ≡ flat_map (creation_of world.now) (map.entries world.now.rows)) }
@@ -228,7 +228,7 @@ fn creations_of(alloc: Global, world: &StoredWorld) -> Result<Vec<Creation>, All
     Ok(creations)
 }
 
-/// The node that holds the service's lock of this number.
+/// Returns the node that holds the service's lock of this number.
 fn holder(world: &StoredWorld, hash: &ServiceHash, number: u64) -> Option<u64>
     ensures { result ≡ holder_of world.now hash.now number }
 {
@@ -238,7 +238,7 @@ fn holder(world: &StoredWorld, hash: &ServiceHash, number: u64) -> Option<u64>
     }
 }
 
-/// The first participant that holds the service's lock of this number.
+/// Returns the first participant that holds the service's lock of this number.
 fn first_holder(
     phases: &[((Participant, ServiceHash), Phase)],
     hash: &ServiceHash,
@@ -252,7 +252,7 @@ fn first_holder(
     }
 }
 
-/// Whether it holds the lock of this number.
+/// Returns whether it holds the lock of this number.
 fn is_at(phase: Phase, number: u64) -> bool
     ensures { result ≡ (has_lock number phase || has_made number phase) }
 {

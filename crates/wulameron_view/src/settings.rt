@@ -24,7 +24,7 @@ pub enum Value {
     Deadline(Option<Deadline>),
 }
 
-/// The text by which a term means it; a deadline's creation time stands behind its length.
+/// Writes the text by which a term means the value. A deadline's creation time follows its length.
 impl fmt::Display for Value {
     ghost use Rattle.std.specs.Prelude.{Some};
     ghost use Rattle.wulameron_view.specs.ShowTexts.{value_text};
@@ -51,7 +51,7 @@ impl fmt::Display for Value {
     }
 }
 
-/// A setting with what was agreed, and whether that differs from what a create has that isn't given it.
+/// A setting with what was agreed, and whether that differs from what a create has by default.
 #[derive(Drop)]
 pub struct Setting {
     name: &'static str,
@@ -68,21 +68,21 @@ impl Model for Setting {
 }
 
 impl Setting {
-    /// Its name, which is a command's term.
+    /// Returns its name, which is a command's term.
     pub fn name(&self) -> &'static str
         ensures { result.now ≡ self.now.name }
     {
         self.name
     }
 
-    /// What was agreed.
+    /// Returns what was agreed.
     pub fn value(&self) -> Value
         ensures { result ≡ self.now.value }
     {
         self.value
     }
 
-    /// Whether it isn't the default.
+    /// Returns whether it isn't the default.
     pub fn differs(&self) -> bool
         ensures { result ≡ self.now.differs }
     {
@@ -143,7 +143,7 @@ fn is_same_event(agreed: &Option<EventId>, default: &Option<EventId>) -> bool
     }
 }
 
-/// Whether the lengths are the same.
+/// Returns whether the lengths are the same.
 fn is_same_deadline(agreed: &Option<Deadline>, default: &Option<Duration>) -> bool
     ensures { result ≡ same_deadline agreed.now default.now }
 {
@@ -157,14 +157,14 @@ fn is_same_deadline(agreed: &Option<Deadline>, default: &Option<Duration>) -> bo
     }
 }
 
-/// Of each field its name, what was agreed and the default.
+/// For each field its name, what was agreed and the default.
 macro_rules! settings_of {
     ($agreed:expr, $default:expr; $($kind:ident $name:ident;)*) => {
         [$(Setting::$kind(stringify!($name), $agreed.$name, $default.$name),)*]
     };
 }
 
-/// What the nodes of a service of events agreed on.
+/// Returns what the nodes of a service of events agreed on.
 pub fn of_events(agreed: &event::StaticConfig) -> [Setting; 8]
     ensures { result ≡ event_settings agreed.now }
 {
@@ -181,7 +181,7 @@ pub fn of_events(agreed: &event::StaticConfig) -> [Setting; 8]
     )
 }
 
-/// What the nodes of a service of publish-subscribe agreed on, but for its types.
+/// Returns what the nodes of a service of publish-subscribe agreed on, except its types.
 pub fn of_publish_subscribe(agreed: &publish_subscribe::StaticConfig) -> [Setting; 7]
     ensures { result ≡ publish_subscribe_settings agreed.now }
 {
@@ -197,7 +197,7 @@ pub fn of_publish_subscribe(agreed: &publish_subscribe::StaticConfig) -> [Settin
     )
 }
 
-/// What the nodes of a service of request-response agreed on, but for its types.
+/// Returns what the nodes of a service of request-response agreed on, except its types.
 pub fn of_request_response(agreed: &request_response::StaticConfig) -> [Setting; 10]
     ensures { result ≡ request_response_settings agreed.now }
 {

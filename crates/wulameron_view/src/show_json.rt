@@ -24,7 +24,7 @@ use serde_json::{Map, Value, json, put};
 use std::alloc::{AllocError, Global};
 
 /// Writes an object with what `show_text` writes, as one line without a space; docs/CLI.md has the keys. `AllocError`
-/// where there is no memory.
+/// if there is no memory.
 pub fn show_json(
     states: &[NodeStatus],
     service: &Service,
@@ -37,7 +37,7 @@ pub fn show_json(
     write_value(&value, text)
 }
 
-/// The object.
+/// Returns the object.
 fn show_value(alloc: Global, states: &[NodeStatus], service: &Service) -> Result<Value, AllocError>
     ensures { IfOk result (λ v. view v ≡ show_data states.now service.now) }
 {
@@ -54,7 +54,7 @@ fn show_value(alloc: Global, states: &[NodeStatus], service: &Service) -> Result
     })
 }
 
-/// The attributes in order.
+/// Returns the attributes in order.
 fn attributes_value(alloc: Global, pairs: &[Attribute]) -> Result<Value, AllocError>
     ensures { IfOk result (λ v. view v ≡ array_of attribute_data pairs.now) }
 {
@@ -71,7 +71,7 @@ fn attribute_value(alloc: Global, pair: &Attribute) -> Result<Value, AllocError>
     json!(in alloc; {"key": pair.key(), "value": pair.value()})
 }
 
-/// The settings by their names.
+/// Returns the settings by their names.
 fn settings_value(alloc: Global, pattern: &MessagingPattern) -> Result<Value, AllocError>
     ensures { IfOk result (λ v. view v ≡ object (with_settings (settings_of pattern.now) no_members)) }
 {
@@ -110,7 +110,7 @@ fn setting_value(alloc: Global, setting: &Setting) -> Result<Value, AllocError>
     json!(in alloc; {"is_default": is_default, "value": value})
 }
 
-/// What was agreed.
+/// Returns what was agreed.
 fn agreed_value(alloc: Global, value: agreed::Value) -> Result<Value, AllocError>
     ensures { IfOk result (λ v. view v ≡ value_data value) }
 {
@@ -143,7 +143,7 @@ fn time_value(alloc: Global, time: &Time) -> Result<Value, AllocError>
     json!(in alloc; {"nanoseconds": time.nanoseconds(), "seconds": time.seconds()})
 }
 
-/// The types by what is sent.
+/// Returns the types by what is sent.
 fn types_value(alloc: Global, pattern: &MessagingPattern) -> Result<Value, AllocError>
     ensures { IfOk result (λ v. view v ≡ types_data pattern.now) }
 {
@@ -181,7 +181,7 @@ fn detail_value(alloc: Global, detail: &TypeDetail) -> Result<Value, AllocError>
     })
 }
 
-/// One value, or a number of them.
+/// Returns the word for one value, or for a number of them.
 fn kind_of(variant: TypeVariant) -> &'static str
     ensures { result.now ≡ variant_text variant }
 {

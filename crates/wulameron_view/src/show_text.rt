@@ -21,10 +21,9 @@ use iceoryx2_types::types::{MessageTypeDetails, TypeDetail, TypeVariant};
 use negotiate_lines::escape::escape;
 use std::alloc::AllocError;
 
-/// Writes all that is known of a service: its name, pattern, hash, number and creator; each setting that was agreed,
-/// with a star where it differs from the default; the types of its messages; its attributes in order; who is in it, and
-/// whether these nodes are alive; and what the star means. `AllocError` where there is no memory; a front of it may
-/// then be written.
+/// Writes all that is known of a service: its name, pattern, hash, number and creator; each agreed setting, with a star
+/// if it differs from the default; the types of its messages; its attributes in order; the nodes in it, and whether
+/// they are alive; and what the star means. `AllocError` if there is no memory; a prefix may then be written.
 pub fn show_text(
     is_coloured: bool,
     states: &[NodeStatus],
@@ -239,7 +238,7 @@ fn write_attribute(pair: &Attribute, text: &mut String) -> Result<(), AllocError
     text.push_str("\n")
 }
 
-/// Writes how many nodes are in it of how many.
+/// Writes how many nodes are in it, and how many it takes.
 #[tactic(auto, unfolding(crate::specs::ShowTexts::room_line))]
 fn write_room(service: &Service, text: &mut String) -> Result<(), AllocError>
     ensures { OnOk result (string_bytes text.new ≡ string_bytes text.old ++ room_line service.now) }

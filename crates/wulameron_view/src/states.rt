@@ -11,27 +11,27 @@ use iceoryx2_monitoring::state::{NodeState, NodeStatus};
 use iceoryx2_table::table::stored::StoredWorld;
 use std::alloc::{AllocError, Global};
 
-/// How a node stands.
+/// Whether a node is alive, and whether something of it is left.
 #[derive(Clone, Copy)]
 pub enum Standing {
-    /// A process has it.
+    /// A process has claimed it.
     Alive,
     /// Its process is gone, and something that it had is left.
     Dead,
     /// Its process is gone, and nothing is left.
     Ended,
-    /// No process ever had it.
+    /// No process ever claimed it.
     NeverClaimed,
 }
 
-/// A node, and how it stands.
+/// A node and its standing.
 #[derive(Clone, Copy)]
 pub struct NodeStanding {
     pub node: u64,
     pub standing: Standing,
 }
 
-/// How each of these nodes stands in a world, in their order. `AllocError` where there is no memory.
+/// Returns the standing of each of these nodes in a world, in their order. `AllocError` if there is no memory.
 pub fn standings(
     alloc: Global,
     world: &StoredWorld,
@@ -46,7 +46,7 @@ pub fn standings(
     Ok(found)
 }
 
-/// How a node of this state stands in a world.
+/// Returns the standing in a world of a node of this state.
 fn standing_in(world: &StoredWorld, status: &NodeStatus) -> NodeStanding
     ensures { IsStandingIn world.now status.now result }
 {
@@ -62,7 +62,7 @@ fn standing_in(world: &StoredWorld, status: &NodeStatus) -> NodeStanding
     NodeStanding { node, standing }
 }
 
-/// How a node stands, in a word.
+/// Returns the word for a node's standing.
 pub(crate) fn word_of_standing(standing: Standing) -> &'static str
     ensures { result.now ≡ standing_word standing }
 {
@@ -74,7 +74,7 @@ pub(crate) fn word_of_standing(standing: Standing) -> &'static str
     }
 }
 
-/// The state of a node among these. A node that has none was never claimed.
+/// Returns the state of a node among these. A node that has none was never claimed.
 pub(crate) fn state_of(states: &[NodeStatus], node: u64) -> NodeState
     ensures { result ≡ state_among states.now node }
 {
@@ -84,7 +84,7 @@ pub(crate) fn state_of(states: &[NodeStatus], node: u64) -> NodeState
     }
 }
 
-/// The first state of the node among these.
+/// Returns the first state of the node among these.
 fn found_state(states: &[NodeStatus], node: u64) -> Option<NodeState>
     ensures { result ≡ option_map (λ status. status.state) (find (λ status. status.node == node) states.now) }
 {
@@ -94,7 +94,7 @@ fn found_state(states: &[NodeStatus], node: u64) -> Option<NodeState>
     }
 }
 
-/// Whether a node is alive, in a word.
+/// Returns the word for whether a node is alive.
 pub(crate) fn word_of(state: NodeState) -> &'static str
     ensures { result.now ≡ state_word state }
 {
@@ -105,7 +105,7 @@ pub(crate) fn word_of(state: NodeState) -> &'static str
     }
 }
 
-/// Whether the process of a node of this state is gone.
+/// Returns whether the process of a node of this state is gone.
 pub(crate) fn is_gone(state: NodeState) -> bool
     ensures { result ≡ is_gone state }
 {
@@ -115,14 +115,14 @@ pub(crate) fn is_gone(state: NodeState) -> bool
     }
 }
 
-/// Whether a node's process is gone.
+/// Returns whether a node's process is gone.
 fn is_dead(states: &[NodeStatus], node: u64) -> bool
     ensures { result ≡ is_dead states.now node }
 {
     is_gone(state_of(states, node))
 }
 
-/// How many of these nodes are dead.
+/// Returns how many of these nodes are dead.
 pub(crate) fn dead_count(states: &[NodeStatus], members: &[Member]) -> usize
     ensures { result ≡ dead_count states.now members.now }
 {
@@ -132,7 +132,7 @@ pub(crate) fn dead_count(states: &[NodeStatus], members: &[Member]) -> usize
         .count()
 }
 
-/// One where the holder of the lock is dead, and else none.
+/// Returns 1 if the holder of the lock is dead, and 0 otherwise.
 pub(crate) fn dead_holders(states: &[NodeStatus], creation: &Creation) -> usize
     ensures { result ≡ dead_holders states.now creation.now }
 {

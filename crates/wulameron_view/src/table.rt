@@ -1,4 +1,4 @@
-//! Cells that stand in columns of a terminal.
+//! Cells in columns of a terminal.
 
 ghost use Rattle.std.specs.Prelude.{◌≡◌, ◌-◌, ◌++◌, IfOk, OnOk, string_bytes};
 ghost use Rattle.std.specs.Str.{chars};
@@ -8,7 +8,7 @@ ghost use Rattle.wulameron_view.specs.Tables.{red, spaces};
 use std::alloc::{AllocError, Global};
 use unicode_width::{UnicodeWidthChar, UnicodeWidthStr};
 
-/// How many columns of a terminal a text takes.
+/// Returns how many columns of a terminal a text takes.
 #[tactic(auto, unfolding(crate::specs::Tables::columns))]
 pub(crate) fn columns(text: &str) -> usize
     ensures { result ≡ columns_of text.now }
@@ -16,7 +16,7 @@ pub(crate) fn columns(text: &str) -> usize
     text.width()
 }
 
-/// Writes a cell, and as many spaces after it as its column is wider.
+/// Writes a cell, and spaces up to the width of its column.
 pub(crate) fn write_padded(cell: &str, width: usize, text: &mut String) -> Result<(), AllocError>
     ensures { OnOk result (string_bytes text.new ≡ string_bytes text.old ++ padded width cell.now) }
 {
@@ -24,7 +24,7 @@ pub(crate) fn write_padded(cell: &str, width: usize, text: &mut String) -> Resul
     write_spaces(width.saturating_sub(columns(cell)), text)
 }
 
-/// Writes so many spaces.
+/// Writes this many spaces.
 fn write_spaces(count: usize, text: &mut String) -> Result<(), AllocError>
     ensures { OnOk result (string_bytes text.new ≡ string_bytes text.old ++ spaces count) }
 {
@@ -34,7 +34,7 @@ fn write_spaces(count: usize, text: &mut String) -> Result<(), AllocError>
     Ok(())
 }
 
-/// A cell that takes at most so many columns: itself, or its first characters with an ellipsis behind them.
+/// Returns a cell that takes at most this many columns: itself, or its first characters and an ellipsis.
 pub(crate) fn cut(alloc: Global, width: usize, cell: &str) -> Result<String, AllocError>
     ensures { IfOk result (λ text. string_bytes text ≡ cut width cell.now) }
 {
@@ -46,7 +46,7 @@ pub(crate) fn cut(alloc: Global, width: usize, cell: &str) -> Result<String, All
     Ok(text)
 }
 
-/// Writes the first characters as long as they take at most so many columns, and an ellipsis behind them.
+/// Writes the first characters, as long as they take at most this many columns, and an ellipsis.
 fn write_front(cell: &str, width: usize, text: &mut String) -> Result<(), AllocError>
     ensures { OnOk result (string_bytes text.new ≡ string_bytes text.old ++ front width (chars cell.now)) }
 {
@@ -62,14 +62,14 @@ fn write_front(cell: &str, width: usize, text: &mut String) -> Result<(), AllocE
     Ok(())
 }
 
-/// Writes what stands in place of what is cut off.
+/// Writes what replaces the characters that are cut off.
 fn write_ellipsis(text: &mut String) -> Result<(), AllocError>
     ensures { OnOk result (string_bytes text.new ≡ string_bytes text.old ++ ellipsis) }
 {
     text.push('…')
 }
 
-/// How many columns of a terminal a character takes.
+/// Returns how many columns of a terminal a character takes.
 fn character_columns(character: char) -> usize
     ensures { result ≡ character_columns character }
 {
@@ -79,7 +79,7 @@ fn character_columns(character: char) -> usize
     }
 }
 
-/// Writes a part, in red where it is to be so and has something.
+/// Writes a part, in red if it is to be red and isn't empty.
 pub(crate) fn write_red(is_red: bool, part: &str, text: &mut String) -> Result<(), AllocError>
     ensures { OnOk result (string_bytes text.new ≡ string_bytes text.old ++ red is_red part.now) }
 {

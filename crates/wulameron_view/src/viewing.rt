@@ -24,8 +24,8 @@ const NO_SERVICE: &str = "has no such service; see `wulameron list`";
 
 const SEVERAL_SERVICES: &str = "has several services of this name; name one by --pattern";
 
-/// Prints which services there are over the log of a place, in the form that is asked for. Gives the status with which the
-/// program ends: 0, or 3 after a failure, of which the writer of errors has a line.
+/// Prints which services there are over the log of a place, in the form that is asked for. Returns the status with
+/// which the program ends: 0, or 3 after a failure, of which the writer of errors has a line.
 pub fn list<F: Files<File = File> + Clock + RandomSource + AllocGlobal, W: Write, E: Write>(
     rt: &F,
     list: &asked::List<'_>,
@@ -42,8 +42,8 @@ pub fn list<F: Files<File = File> + Clock + RandomSource + AllocGlobal, W: Write
     list_over(&mut journal, &found, list.listed, output, &mut reports)
 }
 
-/// Prints which services there are over a log, which this journal takes over first. Of the nodes these states are
-/// known. Gives the status: 0, or 3 where the log refuses, there is no memory, or the output refuses, which is told.
+/// Prints which services there are over a log, after this journal has taken it over. These are the known states of
+/// nodes. Returns the status: 0, or 3 if the log refuses, there is no memory, or the output refuses, which is told.
 pub fn list_over<L: Refusing, W: Write, E: Write>(
     journal: &mut Journal<L>,
     states: &[NodeStatus],
@@ -58,9 +58,9 @@ pub fn list_over<L: Refusing, W: Write, E: Write>(
     end_look(journal.trouble(), looked, reports)
 }
 
-/// Prints what was agreed of a service over the log of a place, and who has it, as lines or as JSON. Gives the status
-/// with which the program ends: 0; 1 where not one service is the wanted one; or 3 after a failure. The writer of
-/// errors has a line of these.
+/// Prints what was agreed for a service over the log of a place, and which nodes have it, as lines or as JSON. Returns
+/// the status with which the program ends: 0; 1 if there is not exactly one wanted service; or 3 after a failure. With
+/// 1 or 3 the writer of errors has a line.
 pub fn show<F: Files<File = File> + Clock + RandomSource + AllocGlobal, W: Write, E: Write>(
     rt: &F,
     show: &Show<'_>,
@@ -85,9 +85,9 @@ pub fn show<F: Files<File = File> + Clock + RandomSource + AllocGlobal, W: Write
     )
 }
 
-/// Prints what was agreed of the wanted service over a log, which this journal takes over first, and who has it. Of the
-/// nodes these states are known. Gives the status: 0; 1 where not one service is the wanted one; or 3 where the log
-/// refuses, there is no memory, or the output refuses. These are told.
+/// Prints what was agreed for the wanted service over a log, after this journal has taken it over, and which nodes have
+/// it. These are the known states of nodes. Returns the status: 0; 1 if there is not exactly one wanted service; or 3
+/// if the log refuses, there is no memory, or the output refuses. With 1 or 3 the reason is told.
 pub fn show_over<L: Refusing, W: Write, E: Write>(
     journal: &mut Journal<L>,
     states: &[NodeStatus],
@@ -104,7 +104,7 @@ pub fn show_over<L: Refusing, W: Write, E: Write>(
     end_look(journal.trouble(), looked, reports)
 }
 
-/// Writes the line of what kept a look from its end, if something did, and gives the status.
+/// Writes the line of what kept a look from its end, if anything did, and returns the status.
 fn end_look<E: Write>(
     trouble: Option<Trouble>,
     looked: Result<(), LookError>,
@@ -118,9 +118,9 @@ fn end_look<E: Write>(
     status_of_look(looked)
 }
 
-/// Writes why a look at a log ended. Where nothing went wrong at a log that isn't read there was no memory.
+/// Writes why a look at a log ended. If the log isn't read and nothing went wrong at it, there was no memory.
 ///
-/// `ServeError` as `write_out` does, and where there is no memory for the line.
+/// `ServeError` as `write_out` does, and if there is no memory for the line.
 pub fn report_look<E: Write>(
     trouble: Option<Trouble>,
     why: LookError,
@@ -143,8 +143,9 @@ pub fn report_look<E: Write>(
 
 // ---- nodes
 
-/// Prints each node that was ever claimed at a place, by rising number, and how it stands, in the form that is asked
-/// for. Gives the status with which the program ends: 0, or 3 after a failure, of which the writer of errors has a line.
+/// Prints each node that was ever claimed at a place, by rising number, with its standing, in the form that is asked
+/// for. Returns the status with which the program ends: 0, or 3 after a failure, of which the writer of errors has a
+/// line.
 pub fn nodes<F: Files<File = File> + Clock + RandomSource + AllocGlobal, W: Write, E: Write>(
     rt: &F,
     look: &Look<'_>,
@@ -161,8 +162,8 @@ pub fn nodes<F: Files<File = File> + Clock + RandomSource + AllocGlobal, W: Writ
     nodes_over(&mut journal, &found, look.shown, output, &mut reports)
 }
 
-/// Prints each of the nodes of these states, and how it stands over a log, which this journal takes over first. Gives
-/// the status: 0, or 3 where the log refuses, there is no memory, or the output refuses, which is told.
+/// Prints each of these nodes with its standing over a log, after this journal has taken it over. Returns the status:
+/// 0, or 3 if the log refuses, there is no memory, or the output refuses, which is told.
 pub fn nodes_over<L: Refusing, W: Write, E: Write>(
     journal: &mut Journal<L>,
     states: &[NodeStatus],

@@ -7,8 +7,8 @@ ghost use Rattle.explain_serve.specs.Attributes.{pair_line, pair_lines};
 use iceoryx2_attribute::attribute::{Attribute, AttributeSet, AttributeVerifier};
 use std::alloc::AllocError;
 
-/// Writes the first key that is lacking, where one is, and then the required pairs of this key and the
-/// pairs that there are. `AllocError` where the text finds no memory.
+/// Writes the first key that is lacking, if one is, and then the required pairs of this key and the pairs that there
+/// are. `AllocError` if the text finds no memory.
 pub(super) fn describe_lacking(
     required: &AttributeVerifier,
     offered: &AttributeSet,
@@ -61,7 +61,7 @@ fn describe_pairs(
     Ok(())
 }
 
-/// Writes the pair where it is of this key, with this word before it.
+/// Writes the pair if it has this key, with this word before it.
 fn describe_pair(
     word: &str,
     key: &str,

@@ -6,8 +6,8 @@ ghost use Rattle.explain_serve.specs.Messages.{detail_text, message_lines, part_
 use iceoryx2_types::types::{MessageTypeDetails, TypeDetail, TypeVariant};
 use std::alloc::AllocError;
 
-/// Writes of each part of a message what is required and what is offered, by the names of the terms of its user
-/// header and of its payload. `AllocError` where the text finds no memory.
+/// Writes for each part of a message what is required and what is offered, by the names of the terms of its user header
+/// and of its payload. `AllocError` if the text finds no memory.
 #[tactic(auto, unfolding(crate::specs::Messages::message_lines))]
 pub(super) fn describe_message(
     user_header: &str,
@@ -29,7 +29,7 @@ pub(super) fn describe_message(
     describe_part(payload, &required.payload, &offered.payload, text)
 }
 
-/// Writes of one part of a message what is required and what is offered.
+/// Writes for one part of a message what is required and what is offered.
 fn describe_part(
     name: &str,
     required: &TypeDetail,
@@ -57,7 +57,7 @@ fn describe_type(detail: &TypeDetail, text: &mut String) -> Result<(), AllocErro
     write!(text, "{variant},{name},{size},{alignment}")
 }
 
-/// The term of a variant.
+/// Returns the term of a variant.
 fn variant_term(variant: TypeVariant) -> &'static str
     ensures { result.now ≡ variant_text variant }
 {

@@ -61,7 +61,7 @@ pub(super) fn describe_required_of(
     )
 }
 
-/// The message that a call asks for after these setters. `AllocError` where there was no memory for the names of
+/// Returns the message that a call asks for after these setters. `AllocError` if there was no memory for the names of
 /// its types.
 fn asked_message(
     alloc: Global,
@@ -78,7 +78,7 @@ fn asked_message(
     types.prepare::<Header, Slice<CustomPayloadMarker>, CustomHeaderMarker>(alloc)
 }
 
-/// The types after one setter. `AllocError` where there was no memory for the name of a type.
+/// Returns the types after one setter. `AllocError` if there was no memory for the name of a type.
 fn with_types(
     types: RequestedTypes,
     setter: &PublishSubscribeSetter,

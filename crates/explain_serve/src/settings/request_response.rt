@@ -62,14 +62,14 @@ pub(super) fn describe_required_of(
     describe_types(setters, there, text)
 }
 
-/// Whether the reason is the types of requests or of responses.
+/// Returns whether the reason is the types of requests or of responses.
 fn is_by_types(reason: Reason) -> bool
     ensures { result ≡ is_by_types reason }
 {
     reason == Reason::IncompatibleRequestType || reason == Reason::IncompatibleResponseType
 }
 
-/// Writes of each part of requests and responses what it required and what is there.
+/// Writes for each part of requests and responses what it required and what is there.
 fn describe_types(
     setters: &[RequestResponseSetter],
     there: &StaticConfig,
@@ -92,8 +92,8 @@ fn describe_types(
     describe_message("response_header", "response_payload", &asked, offered, text)
 }
 
-/// What a call asks after these setters of the types of its requests and responses. `AllocError` where there was
-/// no memory for their names.
+/// Returns the types of requests and responses that a call asks for after these setters. `AllocError` if there was no
+/// memory for their names.
 fn asked_types(setters: &[RequestResponseSetter]) -> Result<RequestedMessages, AllocError>
     ensures { IfOk result (λ types. types ≡ (request_builder_after no_message_types setters.now).types) }
 {
@@ -109,7 +109,7 @@ fn asked_types(setters: &[RequestResponseSetter]) -> Result<RequestedMessages, A
     Ok(types)
 }
 
-/// The types after one setter. `AllocError` where there was no memory for the name of a type.
+/// Returns the types after one setter. `AllocError` if there was no memory for the name of a type.
 fn with_types(
     mut types: RequestedMessages,
     setter: &RequestResponseSetter,
