@@ -40,7 +40,8 @@ pub record GrowsByAnswer {M : Type 0} (Answers : Answering M) (m : M) (line : Li
 abbrev pub IsAnswerToWrong : WrongLines → (goes_on : Bool) → (number : ℕ) → LineError → (output : List ℕ) → Type 0
 IsAnswerToWrong wrong_lines.End goes_on k w output = (goes_on ≡ false) × (output ≡ not_a_command k)
 IsAnswerToWrong wrong_lines.Reply goes_on k w output = (goes_on ≡ true) × IsReplyToWrong [] w output
-IsAnswerToWrong wrong_lines.ReplyAndEmptyLine goes_on k w output = (goes_on ≡ true) × IsReplyToWrong (codes "\n") w output
+IsAnswerToWrong wrong_lines.ReplyAndEmptyLine goes_on k w output =
+    (goes_on ≡ true) × IsReplyToWrong (codes "\n") w output
 
 -- what is written of a line with this number, and whether the program goes on behind it
 abbrev pub IsAnswerTo : {M : Type 0} → AnsweringLines M → (goes_on : Bool) → M → (number : ℕ) → (bytes output : List ℕ)
