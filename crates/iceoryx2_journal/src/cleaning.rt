@@ -1,4 +1,4 @@
-//! What is given back for a node that doesn't do it itself.
+//! The release of what a node has, if the node doesn't do it itself.
 
 ghost use Rattle.std.specs.Prelude.{◌≡◌, false, Some};
 ghost use Rattle.iceoryx2_access.specs.Letter.{Letter};
@@ -27,7 +27,7 @@ pub struct Cleaned {
 }
 
 impl Cleaned {
-    /// Nothing yet.
+    /// Returns counts of nothing.
     pub(crate) fn nothing() -> Cleaned
         ensures { result ≡ nothing_given }
     {
@@ -37,7 +37,7 @@ impl Cleaned {
         }
     }
 
-    /// With one more.
+    /// Returns these counts with one more.
     pub(crate) fn with(self, given: GivenBack) -> Cleaned
         ensures { result ≡ with_one self (Some given) }
     {
@@ -54,7 +54,7 @@ impl Cleaned {
     }
 }
 
-/// What was given back at once.
+/// One thing that was given back.
 #[derive(Clone, Copy, Debug, PartialEq, Eq)]
 pub enum GivenBack {
     /// A ticket.
@@ -63,18 +63,18 @@ pub enum GivenBack {
     Thing,
 }
 
-/// What became of one step of cleaning.
+/// The outcome of one step of cleaning.
 #[derive(Clone, Copy, Debug, PartialEq, Eq)]
 pub enum Step {
     /// Something was given back.
     Gave(GivenBack),
-    /// There was nothing any more.
+    /// There was nothing left.
     Finished,
     /// The log refused, or the journal is over. Nothing was given back.
     Refused,
 }
 
-/// The step in which this was given back.
+/// Returns the step in which this was given back.
 pub(crate) fn step_of(given: Option<GivenBack>) -> Step
     ensures { result ≡ step_with given }
 {
@@ -87,10 +87,10 @@ pub(crate) fn step_of(given: Option<GivenBack>) -> Step
 /// Why a node isn't clean.
 #[derive(Clone, Copy, Debug, PartialEq, Eq)]
 pub enum CleanError {
-    /// It is an own node. Nothing was given back.
+    /// The node is an own one. Nothing was given back.
     IsOwn,
-    /// The log can't be held, read or written, or the journal is over. What was given back before stays so, and
-    /// cleaning can be done again.
+    /// The log can't be held, read or written, or the journal is over. Anything that was given back before stays so,
+    /// and the node can be cleaned again.
     Refused,
 }
 
@@ -135,7 +135,7 @@ impl fmt::Display for AdoptError {
 
 impl Error for AdoptError {}
 
-/// Whether there is a segment that a node of this phase has to remove.
+/// Returns whether there is a segment that a node of this phase has to remove.
 pub(crate) fn has_segment(phase: Phase) -> bool
     ensures { result ≡ has_segment_spec phase }
 {
@@ -145,7 +145,7 @@ pub(crate) fn has_segment(phase: Phase) -> bool
     }
 }
 
-// Something that was removed, where that was granted.
+// Returns what was removed, if the removal was granted.
 pub(crate) fn thing(removed: Result<(), RemoveError>) -> Option<GivenBack>
     ensures { result ≡ if_granted given.Thing removed }
 {
@@ -155,8 +155,8 @@ pub(crate) fn thing(removed: Result<(), RemoveError>) -> Option<GivenBack>
     }
 }
 
-/// Gives back what the node has, by an access in its name. `None` where that is refused. The log is held before, and
-/// isn't after.
+/// Gives back what the node has, by an access in its name. `None` if that is refused. The log is held before, and isn't
+/// held after.
 pub(crate) fn give_back<L: Log>(
     world: &mut StoredWorld,
     recorder: &mut LogRecorder<L>,

@@ -85,11 +85,11 @@ pub struct Course {
     spare: u64,
     pass: Pass,
     reached: Reached,
-    // the node that locked a service for a number, until the service is where the later world has it
+    // the node that locked a service for a number, until the service is as in the later world
     creating: Option<(u64, ServiceHash)>,
     // from the pass over numbers on
     plan: Option<Plan>,
-    // how many entries may come; none before the first
+    // how many more entries may come; `None` before the first entry
     left: Option<u64>,
 }
 
@@ -201,7 +201,7 @@ impl Course {
         Ok(None)
     }
 
-    // The next entry of the pass, or `None` at its end.
+    // Returns the next entry of the pass, or `None` at its end.
     fn step(
         &mut self,
         alloc: Global,
@@ -219,7 +219,8 @@ impl Course {
         }
     }
 
-    // The next entry of the pass over numbers: first of what is being created, then that of the counter's number.
+    // Returns the next entry of the pass over numbers: first those of the service that is being created, and then those
+    // of the counter's number.
     fn number(
         &mut self,
         alloc: Global,
@@ -238,7 +239,7 @@ impl Course {
         Ok(self.at_counter(from, to))
     }
 
-    // What is done at the counter's number.
+    // Returns the entry at the counter's number.
     fn at_counter(&mut self, from: &StoredWorld, to: &StoredWorld) -> Option<Entry> {
         let counter = from.counter();
         let next = self.next_number(counter, to);
@@ -261,7 +262,7 @@ impl Course {
         Some(self.lock(node, hash, counter))
     }
 
-    // The first number from the counter on that something of the later world has, or that world's counter.
+    // Returns the first number from the counter on that anything in the later world has, or that world's counter.
     fn next_number(&self, counter: u64, to: &StoredWorld) -> u64 {
         let ticket = match from_key(to.tickets_held(), &counter).first() {
             Some(entry) => entry.0,
@@ -273,7 +274,7 @@ impl Course {
         }
     }
 
-    // Who locks a service for this number, and which.
+    // Returns the node that locks a service for this number, and the service.
     fn maker(&self, number: u64) -> Option<(u64, ServiceHash)> {
         match &self.plan {
             Some(plan) => plan.maker(number),
@@ -281,14 +282,14 @@ impl Course {
         }
     }
 
-    // The node locks the service, which is brought then to where the later world has it.
+    // Returns the lock of the node. The next entries bring the service to its state in the later world.
     fn lock(&mut self, node: u64, hash: ServiceHash, number: u64) -> Entry {
         self.creating = Some((node, hash));
         entry(node, hash, Operation::Lock { number })
     }
 
-    // What is done with a number that nothing of the later world has: somebody opens a service that it is the last one
-    // to leave, or removes a segment that stands alone.
+    // Returns the entry at a number that nothing in the later world has. A node opens a service that it will leave
+    // last, or locks a service of which only a segment is left, to remove it.
     fn at_gap(&mut self, counter: u64, from: &StoredWorld, to: &StoredWorld) -> Option<Entry> {
         if let Some((node, hash, number)) = plan::next_visitor(&mut self.reached, from, to) {
             return Some(self.opening(node, hash, number, from, to));
@@ -297,7 +298,7 @@ impl Course {
         Some(self.lock(self.spare, hash, counter))
     }
 
-    // The node opens the service. Where it has no room, the one that was kept leaves first.
+    // Returns the opening of the service by the node. If the service is full, its kept ticket is released first.
     fn opening(
         &self,
         node: u64,
@@ -315,7 +316,7 @@ impl Course {
         entry(node, hash, Operation::OpenSegment { number, ticket })
     }
 
-    // The release of the ticket that was kept of the service.
+    // Returns the release of the service's kept ticket.
     fn making_room(
         &self,
         hash: ServiceHash,

@@ -1,4 +1,4 @@
-//! What an entry of another makes of a process's world.
+//! Changes a process's world by the entries of others.
 
 ghost use Rattle.iceoryx2_log.specs.declared.entry.Operation.TheVariants as operation;
 ghost use Rattle.iceoryx2_journal.specs.Follow.{MayFetch, Follows};
@@ -18,14 +18,14 @@ use std::alloc::Global;
 pub enum FollowError {
     /// There was no memory. The entry can be followed again.
     OutOfMemory,
-    /// The access doesn't answer what the entry has: somebody's program differs, or the log is damaged. What it did
-    /// stays, so the world isn't the log's any more.
+    /// The access doesn't answer what the entry states: another program differs, or the log is damaged. The access's
+    /// changes stay, so the world isn't the log's any more.
     Disagrees,
 }
 
-/// Makes the entry's access, as its node, and compares the answer, or spends numbers. Before an opening its node
-/// fetches, where it isn't registered. Where there is no memory nothing changes, but that the node may have read.
-/// `Disagrees` too where the entry marks that the log goes on elsewhere: that is for the log to see.
+/// Makes the entry's access as its node, and compares the answer, or spends numbers. Before an opening, a node that
+/// isn't registered fetches. If there is no memory, nothing changes, except that the node may have read. Answers
+/// `Disagrees` also for the mark that the log goes on in another place, which the log has to see.
 pub fn follow(alloc: Global, world: &mut StoredWorld, entry: &Entry) -> Result<(), FollowError>
     ensures { Follows entry.now result world.old world.new }
 {
@@ -165,7 +165,7 @@ fn open_segment(
     )
 }
 
-// Fetches where the node isn't registered. False where there was no memory.
+// Fetches the service if the node isn't registered. Returns false if there was no memory.
 fn fetch(world: &mut StoredWorld, node: u64, hash: &ServiceHash) -> bool
     ensures { MayFetch node hash.now world.old world.new }
 {

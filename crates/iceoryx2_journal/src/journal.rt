@@ -41,11 +41,11 @@ pub struct Journal<L> {
     recorder: LogRecorder<L>,
     nodes: Vec<u64>,
     is_over: bool,
-    // whether the log goes on elsewhere, and the world isn't yet what it comes to there
+    // whether the log goes on in another place whose entries the world doesn't have yet
     is_lost: bool,
 }
 
-// Written out, so that a proof of what lets one go doesn't take its fields apart.
+// Written out, so that the proof of a function that drops a journal doesn't go through its fields.
 impl<L: Drop> Drop for Journal<L> {
     fn drop(self) {
         let Journal {
@@ -126,7 +126,7 @@ impl<L> Journal<L> {
         &self.recorder.log
     }
 
-    // Whether it is one of the own nodes.
+    // Returns whether the node is an own one.
     fn has_node(&self, node: u64) -> bool
         ensures { result ≡ is_own self.now.nodes node }
     {
@@ -152,8 +152,8 @@ impl<L: Drop> Journal<L> {
 }
 
 impl<L: Log> Journal<L> {
-    // Holds the log and takes over what others appended, for an access that is in an own node's name. False where there
-    // is no own part, and then the log isn't held.
+    // Holds the log and takes over what others appended, for an access. Returns false if that fails, or if the access
+    // isn't in an own node's name. The log isn't held then.
     fn begin(&mut self, mine: bool) -> bool
         ensures begins { Begins L.contents mine result self.old self.new }
         ensures was_free { result ≡ true → L.held self.old.log ≡ false }
@@ -169,7 +169,8 @@ impl<L: Log> Journal<L> {
         true
     }
 
-    // Holds the log and takes over what others appended. False where that isn't all, and then the log isn't held.
+    // Holds the log and takes over what others appended. Returns false if it didn't take over all. The log isn't held
+    // then.
     fn begin_reading(&mut self) -> bool
         ensures begins { Begins L.contents true result self.old self.new }
         ensures was_free { result ≡ true → L.held self.old.log ≡ false }
@@ -184,8 +185,8 @@ impl<L: Log> Journal<L> {
         self.take_in()
     }
 
-    // Takes over what others appended, of a log that is held or was looked at. False where that isn't all, and then the
-    // log isn't held.
+    // Takes over what others appended to a log that is held or was looked at. Returns false if it didn't take over all.
+    // The log isn't held then.
     fn take_in(&mut self) -> bool
         requires { self.old.is_over ≡ false }
         ensures takes { Begins L.contents true result self.old self.new }
@@ -266,7 +267,7 @@ impl<L: Log> Journal<L> {
         self.begin(mine)
     }
 
-    // Lets go of the log for a while where a node has the service's lock and the log pauses. The log stays held else.
+    // Releases the log for a while if a node has the service's lock and the log pauses. If not, the log stays held.
     fn has_paused(&mut self, hash: &ServiceHash, number: u64) -> bool
         ensures log { L.contents self.new.log ≡ L.contents self.old.log }
         ensures same { self.new ≡ record self.old { log = self.new.log } }
@@ -278,7 +279,7 @@ impl<L: Log> Journal<L> {
         }
     }
 
-    // Begins an access that looks for a service. While a node has its lock, others have time to append.
+    // Begins an access that looks for a service. While a node has the service's lock, others get time to append.
     fn begin_look(&mut self, mine: bool, hash: &ServiceHash) -> bool
         ensures begins { Begins L.contents mine result self.old self.new }
         ensures was_free { result ≡ true → L.held self.old.log ≡ false }

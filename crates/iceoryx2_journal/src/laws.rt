@@ -12,47 +12,47 @@ ghost use Rattle.iceoryx2_journal.specs.Processes.{StandsAcross, CarriesOneAcros
 
 use iceoryx2_log::log::Log;
 
-/// The law of a word of accesses of a journal over any log, whatever is in the log.
+/// The laws of a run of accesses to a journal over any log, whatever is in the log.
 pub fn journals<L: Log>()
-    // It is accesses of own nodes in its world, of which any may be refused, each after what others do. So it is
-    // accesses under interference.
+    // A run is accesses of own nodes in the journal's world, each after steps of others. Any of them may be refused. So
+    // a run is accesses under interference.
     ensures among_others { GoesAmongOthers L.contents }
     ensures under { GoesUnderInterference L.contents }
 
-    // The own nodes stay. An access of another, and each one once the journal is over, is its general fault, and
-    // nothing changes.
+    // The own nodes stay. An access of another node, and any access to a journal that is over, answers its general
+    // fault and changes nothing.
     ensures nodes { KeepsItsNodes L.contents }
     ensures other { RefusesOtherNodes L.contents }
     ensures over { StaysOver L.contents }
 
-    // Where the log's entries are known, an access that isn't its general fault leaves none of them unread; none goes
-    // or changes its place, and what is appended comes after all of them, until the log goes on in another place. What
-    // stands there begins with a snapshot.
+    // If the log's entries are known, an access leaves none of them unread, unless it answers its general fault. No
+    // entry goes or moves, and new ones come after all others, until the log goes on in another place. The entries of
+    // that place begin with a snapshot.
     ensures unread { LeavesNothingUnread L.contents }
     ensures kept { KeepsTheLog L.contents }
 
-    // Until the journal is over or lost its world is what the entries come to that it has taken over or appended, in
-    // order, in the place where the log is, but for who has only read.
+    // Until the journal is over or lost, its world is the one that its entries lead to: those that it took over or
+    // appended, in order, in the log's place. Nodes that only read aren't compared.
     ensures replays { ReplaysTheLog L.contents }
     ensures whole { IsWhatTheLogComesTo L.contents }
 
-    // So two journals that have the same entries show the same world, but for who has only read.
+    // So two journals with the same entries show the same world, except for nodes that only read.
     ensures one { ShowsOneWorld L.contents }
 {}
 
 /// Laws of cleaning up for a node.
 pub fn cleaning<L: Log>()
-    // Who has nothing holds nothing of any service.
+    // A node that has nothing holds nothing of any service.
     ensures holds_nothing { HoldsNothing }
 
-    // Each access is in the node's name, and leaves each factory of another node standing.
+    // Each access is in the node's name. Each factory of another node stands as before.
     ensures names { IsInItsName L.contents }
     ensures spares { SparesOtherNodes }
 {}
 
 /// Laws of the worlds that entries come to.
 pub fn entries()
-    // What worlds come to by the same entries is the same, but for who has only read.
+    // Worlds that follow the same entries are the same, except for nodes that only read.
     ensures { OneWorldEach }
 {}
 
@@ -63,33 +63,35 @@ pub fn entries()
 /// list begins. The entries of a log are known if its contract tells them, as a `MemoryLog`'s does.
 /// A file's entries never are, and we trust that all its handles read one list.
 pub fn processes<L: Log>()
-    // The world of each agrees.
+    // Each journal's world agrees.
     ensures agrees { AgreesInEach L.contents }
 
-    // Where one has read more than another, its world is a run of accesses from the other's, but for who has only read.
+    // If one journal has read more than another, accesses lead from the other's world to its own, except for nodes that
+    // only read.
     ensures on { GoesOnFromOthers L.contents }
 
     // No number is published twice.
     ensures once { PublishesOnce L.contents }
 
-    // Factories of one service and number carry one description, in whichever processes they stand.
+    // Factories of one service and number carry one description, whichever processes hold them.
     ensures one { CarriesOneDescription L.contents }
 
-    // A factory that stands in one process's world stands in that of each that has read more, unless its ticket is
-    // released there.
+    // A factory that stands in one process's world stands in the world of each process that has read more, unless its
+    // ticket is released there.
     ensures stands { StandsInOthers L.contents }
 
-    // So does each of an own node, where nothing that the other has read more is in an own node's name: a node is one
-    // process's. At the end of the list it stands, where the rest is of nodes that aren't own.
+    // So does each factory of an own node, if no further entry that the other process has read is in an own node's
+    // name, since a node belongs to one process. It stands at the end of the list if all further entries are of other
+    // nodes.
     ensures own { OwnStandsInOthers L.contents }
     ensures own_at_the_end { OwnStandsAtTheEnd L.contents }
 
-    // All processes together, no more nodes have a factory of one service and number that stands at the end than its
-    // description allows.
+    // In all processes together, no more nodes have a factory of one service and number at the end than its description
+    // allows.
     ensures few { FewHaveAPart L.contents }
 
-    // Over any number of compactions a factory stands unless its ticket is released, factories of one service and
-    // number carry one description, and no more nodes have one than it allows.
+    // Over any number of compactions, a factory stands unless its ticket is released. Factories of one service and
+    // number carry one description, and no more nodes have one than the description allows.
     ensures stands_across { StandsAcross L.contents }
     ensures one_across { CarriesOneAcross L.contents }
     ensures few_across { FewAcross L.contents }

@@ -15,7 +15,7 @@ use iceoryx2_table::holdings::{Holding, first_service};
 use iceoryx2_table::table::stored::StoredWorld;
 use iceoryx2_world::world::Ticket;
 
-// The node's first ticket that isn't one of these.
+// Returns the node's first ticket that isn't spared.
 fn owed_ticket(tickets: &[(u64, Ticket)], node: u64, spared: &[u64]) -> Option<Holding>
     ensures { result ≡ owed_ticket_spec node spared.now tickets.now }
 {
@@ -32,7 +32,7 @@ fn owed_ticket(tickets: &[(u64, Ticket)], node: u64, spared: &[u64]) -> Option<H
     }
 }
 
-// The node's first tag for a service for which it has no ticket.
+// Returns the node's first tag for a service for which it has no ticket.
 fn owed_tag(world: &StoredWorld, node: u64) -> Option<Holding>
     ensures { result ≡ owed_tag_spec node world.now.tickets (map.entries world.now.tags) }
 {

@@ -23,7 +23,7 @@ const FIRST_NUMBER: u64 = 0;
 /// The node that spends a snapshot's numbers.
 const SPENDING_NODE: u64 = 0;
 
-// What is made of an entry that isn't followed.
+// Returns why to stop at an entry that can't be followed.
 fn stop_after(error: FollowError) -> Stop {
     match error {
         FollowError::OutOfMemory => Stop::Later,
@@ -33,7 +33,7 @@ fn stop_after(error: FollowError) -> Stop {
 
 // ---- on the way to another world
 
-// A node that isn't an own one.
+// Returns a node that isn't an own one.
 fn other_node(nodes: &[u64]) -> Option<u64>
     ensures { IfSome result (λ node. is_own nodes.now node ≡ false) }
 {
@@ -45,7 +45,7 @@ fn other_node(nodes: &[u64]) -> Option<u64>
     None
 }
 
-// Follows what comes next on the way to the other world. An own node has nothing to do there: its process did nothing
+// Follows the next entry on the way to the other world. It isn't an own node's, since an own node's process did nothing
 // meanwhile.
 fn advance_next(
     alloc: Global,
@@ -74,7 +74,7 @@ fn advance_next(
     }
 }
 
-// Follows all that comes on the way to the other world.
+// Follows all entries on the way to the other world.
 fn advance_all(
     alloc: Global,
     world: &mut StoredWorld,
@@ -97,7 +97,7 @@ fn advance_all(
     Err(Stop::Later)
 }
 
-// Goes on to the other world by what others did meanwhile. `Over` where that leads elsewhere.
+// Brings the world to the other one by what others did meanwhile. `Over` if that leads to a different world.
 fn advance(
     alloc: Global,
     world: &mut StoredWorld,
@@ -117,7 +117,7 @@ fn advance(
 
 // ---- a snapshot that is read
 
-// Follows the next entry of the snapshot, and takes it over.
+// Reads and follows the next entry of the snapshot.
 fn restore_next<L: Log>(alloc: Global, world: &mut StoredWorld, log: &mut L) -> Next
     ensures { RestoresNext result world.old world.new (L.contents log.old) (L.contents log.new) }
 {
@@ -139,7 +139,7 @@ fn restore_next<L: Log>(alloc: Global, world: &mut StoredWorld, log: &mut L) -> 
     }
 }
 
-// Follows the entries of the snapshot before which the handle stands, and takes them over.
+// Reads and follows the entries of the snapshot that the handle reads next.
 fn restore_all<L: Log>(alloc: Global, world: &mut StoredWorld, log: &mut L) -> Result<(), Stop>
     ensures { Restores result world.old world.new (L.contents log.old) (L.contents log.new) }
 {
@@ -153,7 +153,7 @@ fn restore_all<L: Log>(alloc: Global, world: &mut StoredWorld, log: &mut L) -> R
     Err(Stop::Later)
 }
 
-// What the snapshot comes to before which the handle stands, from this number on. It is taken over.
+// Reads the snapshot that the handle reads next. Returns the world that it leads to, whose numbers begin at `counter`.
 fn restored<L: Log>(alloc: Global, log: &mut L, counter: u64) -> Result<StoredWorld, Stop>
     ensures world { IfOk result (λ world. IsRestored counter world (L.contents log.old) (L.contents log.new)) }
     ensures taken { (entries : List declared.Entry)
@@ -187,7 +187,7 @@ pub fn catch_up<L: Log>(
 
 // ---- a snapshot that is written
 
-// Follows what comes next on the way to the world, and keeps it.
+// Follows the next entry on the way to the world, and adds it to the entries.
 fn write_next(
     alloc: Global,
     course: &mut Course,
@@ -212,8 +212,8 @@ fn write_next(
     Next::Taken
 }
 
-// Entries that lead from nothing to the world, as long as the way is known, and the world to which they come. Whether
-// it is this one is for who compares them.
+// Returns entries on the way from an empty world to this one, as far as the way is known, and the world that they lead
+// to. The two worlds aren't compared.
 fn way_to(alloc: Global, world: &StoredWorld) -> Result<(Vec<Entry>, StoredWorld), Stop>
     ensures { IfOk result (λ way. IsSnapshot FIRST_NUMBER way.0.items way.1) }
 {
@@ -230,7 +230,7 @@ fn way_to(alloc: Global, world: &StoredWorld) -> Result<(Vec<Entry>, StoredWorld
     Err(Stop::Later)
 }
 
-// Entries that stand for the world. `Later` without memory, and `Over` where no way to it is known.
+// Returns entries that stand for the world. `Later` if there is no memory, and `Over` if no way to the world is known.
 fn snapshot_of(alloc: Global, world: &StoredWorld) -> Result<Vec<Entry>, Stop>
     ensures { IfOk result (λ entries. StandsFor FIRST_NUMBER entries.items world.now) }
 {

@@ -91,7 +91,7 @@ pub fn take_next<L: Log>(alloc: Global, world: &mut StoredWorld, log: &mut L, no
     }
 }
 
-// Takes all over that stands here. That the log goes on elsewhere is kept for later.
+// Takes over all entries of this place. If the log goes on in another place, this is only noted.
 fn take_here<L: Log>(
     alloc: Global,
     world: &mut StoredWorld,
@@ -110,7 +110,7 @@ fn take_here<L: Log>(
     taken
 }
 
-// Takes all over, from where the log goes on if it was lost.
+// Takes over all entries. If the world was lost, it starts at the place where the log goes on.
 fn take_round<L: Log>(
     alloc: Global,
     world: &mut StoredWorld,

@@ -1,4 +1,4 @@
-//! Which tickets are released.
+//! The tickets that are released.
 
 use super::{Reached, entry, from_key, last_left};
 use iceoryx2_description::description::ServiceHash;
@@ -7,7 +7,7 @@ use iceoryx2_table::rows::RowState;
 use iceoryx2_table::table::stored::StoredWorld;
 use iceoryx2_world::world::{Phase, Ticket};
 
-/// Whether the later world has the service of this number.
+/// Returns whether the later world has the service published with this number.
 pub fn is_published(world: &StoredWorld, hash: &ServiceHash, number: u64) -> bool {
     match world.row(hash) {
         Some(row) => row.state() == RowState::Published(number),
@@ -15,12 +15,12 @@ pub fn is_published(world: &StoredWorld, hash: &ServiceHash, number: u64) -> boo
     }
 }
 
-// Whether the node leaves the service last.
+// Returns whether the ticket's node leaves the service last.
 fn leaves_last(to: &StoredWorld, held: &Ticket) -> bool {
     last_left(to.phase(held.node, &held.hash)) == Some(held.number)
 }
 
-// How many are registered in the service's segment.
+// Returns how many participants the service's segment has.
 fn members(world: &StoredWorld, hash: &ServiceHash) -> usize {
     match world.segment(hash) {
         Some(segment) => segment.participants().len(),
@@ -28,7 +28,7 @@ fn members(world: &StoredWorld, hash: &ServiceHash) -> usize {
     }
 }
 
-// Whether the service has no other ticket.
+// Returns whether the service has no other ticket.
 fn is_only(from: &StoredWorld, held: &Ticket) -> bool {
     match from.phase(held.node, &held.hash) {
         Phase::Joined(_, count) => count <= 1 && members(from, &held.hash) <= 1,
@@ -36,13 +36,13 @@ fn is_only(from: &StoredWorld, held: &Ticket) -> bool {
     }
 }
 
-/// Whether the later world doesn't have the ticket.
+/// Returns whether the later world lacks the ticket.
 pub fn is_gone(to: &StoredWorld, ticket: u64, held: &Ticket) -> bool {
     to.ticket(ticket) != Some(*held)
 }
 
-// Whether it is released before numbers are used: where the later world doesn't have the service, or somebody stays
-// registered and its node isn't the last one to leave.
+// Returns whether the ticket is released before numbers are used. It is if the later world doesn't have the service, or
+// if another ticket stays and the node isn't the last one to leave.
 fn is_released(ticket: u64, held: &Ticket, from: &StoredWorld, to: &StoredWorld) -> bool {
     if !is_gone(to, ticket, held) {
         return false;
@@ -53,13 +53,13 @@ fn is_released(ticket: u64, held: &Ticket, from: &StoredWorld, to: &StoredWorld)
     !leaves_last(to, held) && !is_only(from, held)
 }
 
-// The entry of its release.
+// Returns the entry that releases the ticket.
 fn release_of(ticket: u64, held: &Ticket) -> Entry {
     let number = held.number;
     entry(held.node, held.hash, Operation::Release { ticket, number })
 }
 
-/// The next release before numbers are used.
+/// Returns the next release before numbers are used.
 pub fn next(reached: &mut Reached, from: &StoredWorld, to: &StoredWorld) -> Option<Entry> {
     for (ticket, held) in from_key(from.tickets_held(), &reached.ticket) {
         reached.ticket = *ticket;
@@ -70,7 +70,8 @@ pub fn next(reached: &mut Reached, from: &StoredWorld, to: &StoredWorld) -> Opti
     None
 }
 
-/// The next release after them. Who came only to be the last one to leave has a later ticket than who was kept.
+/// Returns the next release after numbers are used. A node that came only to leave last has a later ticket than the
+/// kept one.
 pub fn next_last(reached: &mut Reached, from: &StoredWorld, to: &StoredWorld) -> Option<Entry> {
     for (ticket, held) in from_key(from.tickets_held(), &reached.ticket) {
         reached.ticket = *ticket;
@@ -81,7 +82,7 @@ pub fn next_last(reached: &mut Reached, from: &StoredWorld, to: &StoredWorld) ->
     None
 }
 
-/// The release of a ticket for the service, where it is there and the later world doesn't have it.
+/// Returns the release of the ticket for the service, if it is there and the later world lacks it.
 pub fn release(
     ticket: u64,
     hash: &ServiceHash,
@@ -95,7 +96,7 @@ pub fn release(
     Some(release_of(ticket, &held))
 }
 
-/// Whether the service has no room for the node.
+/// Returns whether the service has no room for the node.
 pub fn is_full(from: &StoredWorld, node: u64, hash: &ServiceHash) -> bool {
     match from.phase(node, hash) {
         Phase::Joined(_, _) => false,

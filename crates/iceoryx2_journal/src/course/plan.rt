@@ -1,4 +1,4 @@
-//! What the numbers from the counter on are used for.
+//! The use of the numbers from the counter on.
 
 use super::leaving::{is_gone, is_published};
 use super::{Reached, from_key, has_joined, last_left, place_of};
@@ -9,20 +9,20 @@ use iceoryx2_table::table::stored::StoredWorld;
 use iceoryx2_world::world::{Participant, Phase};
 use std::alloc::{AllocError, Global};
 
-/// The number of a service, the ticket by which a node is known for it, or zero, the node and the hash.
+/// A service's number, the ticket of a node that has it, or zero, and the node and the service's hash.
 type Maker = ((u64, u64), (u64, ServiceHash));
 
-/// What was looked up before the first number.
+/// All that is looked up before the first number is used.
 #[derive(Drop)]
 pub struct Plan {
-    // by number, and for one number by ticket: the first one of a number locks it
+    // by number, and then by ticket; the first one of a number locks it
     makers: Vec<Maker>,
-    // by hash, tickets that the later world doesn't have, for services that it has
+    // by hash: tickets that the later world doesn't have, of services that it has
     kept: Vec<(ServiceHash, u64)>,
 }
 
 impl Plan {
-    /// What is made from the counter on, and whom, and what waits to be released.
+    /// Returns the services that nodes lock from the counter on, and the tickets that wait to be released.
     pub fn new(
         alloc: Global,
         spare: u64,
@@ -41,13 +41,13 @@ impl Plan {
         Ok(Plan { makers, kept })
     }
 
-    /// The first number from this one on that a service is locked for.
+    /// Returns the first number from this one on for which a service is locked.
     pub fn next_number(&self, number: u64) -> Option<u64> {
         let first = from_key(self.makers.as_slice(), &(number, 0)).first()?;
         Some(first.0.0)
     }
 
-    /// Who locks a service for this number, and which.
+    /// Returns the node that locks a service for this number, and the service.
     pub fn maker(&self, number: u64) -> Option<(u64, ServiceHash)> {
         let first = from_key(self.makers.as_slice(), &(number, 0)).first()?;
         if first.0.0 != number {
@@ -56,7 +56,7 @@ impl Plan {
         Some(first.1)
     }
 
-    /// A ticket for the service that waited to be released.
+    /// Returns a ticket for the service that waits to be released.
     pub fn kept(&self, hash: &ServiceHash) -> Option<u64> {
         let at = place_of(self.kept.as_slice(), hash);
         let (found, ticket) = self.kept.as_slice().get(at)?;
@@ -67,7 +67,7 @@ impl Plan {
     }
 }
 
-// The number of who has a lock, or was the last one to leave.
+// Returns the number of a node that has a lock, or was the last one to leave.
 fn held_number(phase: Phase) -> Option<u64> {
     match phase {
         Phase::Locked(number) | Phase::Made(number) => Some(number),
@@ -75,7 +75,7 @@ fn held_number(phase: Phase) -> Option<u64> {
     }
 }
 
-// Who has a lock, or was the last one to leave.
+// Adds the nodes that have a lock, or were the last ones to leave.
 fn push_holders(makers: &mut Vec<Maker>, counter: u64, to: &StoredWorld) -> Result<(), AllocError> {
     for ((participant, hash), phase) in to.phases_held() {
         if let (Participant::Node(node), Some(number)) = (participant, held_number(*phase)) {
@@ -87,7 +87,7 @@ fn push_holders(makers: &mut Vec<Maker>, counter: u64, to: &StoredWorld) -> Resu
     Ok(())
 }
 
-// Who is registered. A service's own number is its creator's ticket, and below all others.
+// Adds the nodes that are registered. A service's own number is its creator's ticket, which is below all others.
 fn push_creators(
     makers: &mut Vec<Maker>,
     counter: u64,
@@ -101,7 +101,7 @@ fn push_creators(
     Ok(())
 }
 
-// Whether a description of the segment's number stands.
+// Returns whether there is a row of the segment's number.
 fn is_described(to: &StoredWorld, hash: &ServiceHash, number: u64) -> bool {
     match to.row(hash) {
         Some(row) => match row.state() {
@@ -111,7 +111,7 @@ fn is_described(to: &StoredWorld, hash: &ServiceHash, number: u64) -> bool {
     }
 }
 
-// Who is in a segment that stands alone, or the spare node.
+// Returns a node that is in a segment without a row, or the spare node.
 fn member_of(segment: &StoredSegment, spare: u64) -> u64 {
     match segment.participants().first() {
         Some((Participant::Node(node), _)) => *node,
@@ -119,7 +119,7 @@ fn member_of(segment: &StoredSegment, spare: u64) -> u64 {
     }
 }
 
-// Segments that stand alone.
+// Adds the services of segments without a row.
 fn push_remainders(
     makers: &mut Vec<Maker>,
     counter: u64,
@@ -135,7 +135,7 @@ fn push_remainders(
     Ok(())
 }
 
-// Tickets that wait to be released.
+// Adds the tickets that wait to be released.
 fn push_kept(
     kept: &mut Vec<(ServiceHash, u64)>,
     from: &StoredWorld,
@@ -149,7 +149,8 @@ fn push_kept(
     Ok(())
 }
 
-/// The next node that is the last one to leave a service which it hasn't joined yet, with the service and its number.
+/// Returns the next node that will be the last one to leave a service and hasn't joined it yet, with the service and
+/// its number.
 pub fn next_visitor(
     reached: &mut Reached,
     from: &StoredWorld,
@@ -166,12 +167,12 @@ pub fn next_visitor(
     None
 }
 
-// Whether the service has a segment alone, and in the later world nothing.
+// Returns whether the service has no row, and nothing at all in the later world.
 fn is_left(hash: &ServiceHash, from: &StoredWorld, to: &StoredWorld) -> bool {
     from.row(hash).is_none() && to.row(hash).is_none() && to.segment(hash).is_none()
 }
 
-/// The next service of which a segment stands alone, and nothing in the later world.
+/// Returns the next service of which only a segment is left, and nothing in the later world.
 pub fn next_remainder(
     reached: &mut Reached,
     from: &StoredWorld,

@@ -1,4 +1,4 @@
-//! How a node that has a service's lock, or was the last one to leave it, comes to where the later world has it.
+//! The entries of a node that has a service's lock, or was the last one to leave, until it is as in the later world.
 
 use super::leaving::is_published;
 use super::{Reached, entry, from_key};
@@ -15,7 +15,7 @@ use iceoryx2_table::table::stored::StoredWorld;
 use iceoryx2_world::world::{Participant, Phase};
 use std::alloc::{AllocError, Global};
 
-/// The next entry of a node that isn't where the later world has it.
+/// Returns the next entry of any node that isn't as in the later world.
 pub fn next(
     alloc: Global,
     reached: &mut Reached,
@@ -33,7 +33,7 @@ pub fn next(
     Ok(None)
 }
 
-/// What the node does next at the service, or `None` where it is as far as it comes.
+/// Returns what the node does next at the service, or `None` if it does nothing more.
 pub fn operation(
     alloc: Global,
     from: &StoredWorld,
@@ -52,7 +52,7 @@ pub fn operation(
     }
 }
 
-// Who has the lock.
+// Returns what a node with the lock does next.
 fn creating(
     alloc: Global,
     from: &StoredWorld,
@@ -78,7 +78,7 @@ fn creating(
     giving_up(alloc, from, to, hash, number)
 }
 
-// It keeps the lock.
+// Returns what a node does next that keeps the lock.
 fn holding(
     from: &StoredWorld,
     to: &StoredWorld,
@@ -97,7 +97,7 @@ fn holding(
     }
 }
 
-// It publishes the service.
+// Returns what a node does next that publishes the service.
 fn publishing(
     alloc: Global,
     from: &StoredWorld,
@@ -117,7 +117,7 @@ fn publishing(
     Ok(Some(Operation::Publish { number, bytes }))
 }
 
-// For how many nodes the service is described. Of what isn't a description for none, which no segment is made for.
+// Returns the description's number of nodes, or 0 if the bytes are no description. No segment is made for 0.
 fn capacity_of(alloc: Global, row: &StoredRow) -> Result<u64, AllocError> {
     match bytes::decode(alloc, row.bytes().as_slice()) {
         Ok(description) => Ok(description.max_nodes()),
@@ -126,7 +126,7 @@ fn capacity_of(alloc: Global, row: &StoredRow) -> Result<u64, AllocError> {
     }
 }
 
-// It gives the lock up, and a segment stays where the later world has it.
+// Returns what a node does next that gives up the lock. A segment stays if the later world has it.
 fn giving_up(
     alloc: Global,
     from: &StoredWorld,
@@ -148,8 +148,8 @@ fn giving_up(
     }
 }
 
-// A segment of its number stays, marked where all have left it. Nothing is left of the description that was published
-// then, so any is published that fits.
+// Returns what a node does next of whose number only a segment stays. A segment that all have left is marked. Nothing
+// is left of the description that was published before, so the node publishes any that fits.
 fn leaving_alone(
     alloc: Global,
     from: &StoredWorld,
@@ -168,7 +168,7 @@ fn leaving_alone(
     Ok(Some(Operation::Publish { number, bytes }))
 }
 
-// Events under the hash for so many nodes.
+// Returns a description of events with this hash and number of nodes.
 fn any_description(
     alloc: Global,
     hash: ServiceHash,
@@ -194,7 +194,7 @@ fn any_description(
     Ok(StaticConfig::new(hash, name, AttributeSet::new(alloc), pattern))
 }
 
-// Its segment for so many nodes is made, after another one is removed. `None` where it stands.
+// Returns the making of the segment, or first the removal of another one. `None` if the segment is there.
 fn making(
     from: &StoredWorld,
     hash: &ServiceHash,
@@ -212,7 +212,7 @@ fn making(
     }
 }
 
-// The segment is removed, where one stands.
+// Returns the removal of the segment, if there is one.
 fn clearing(from: &StoredWorld, hash: &ServiceHash) -> Option<Operation> {
     match from.segment(hash) {
         Some(_) => Some(Operation::RemoveSegment),
@@ -220,7 +220,7 @@ fn clearing(from: &StoredWorld, hash: &ServiceHash) -> Option<Operation> {
     }
 }
 
-// The segment's number.
+// Returns the segment's number.
 fn number_of(segment: Option<&StoredSegment>) -> Option<u64> {
     match segment {
         Some(segment) => Some(segment.number()),
@@ -228,7 +228,7 @@ fn number_of(segment: Option<&StoredSegment>) -> Option<u64> {
     }
 }
 
-// Who has published what the later world doesn't have leaves it.
+// Returns the release by the node that published a service which the later world doesn't have.
 fn visiting(
     from: &StoredWorld,
     to: &StoredWorld,
@@ -247,7 +247,7 @@ fn visiting(
     Some(Operation::Release { ticket, number })
 }
 
-// Who was the last one to leave.
+// Returns what the last node to leave does next.
 fn leaving(to: &StoredWorld, node: u64, hash: &ServiceHash, number: u64) -> Option<Operation> {
     if is_published(to, hash, number) {
         return match to.phase(node, hash) {
@@ -261,7 +261,7 @@ fn leaving(to: &StoredWorld, node: u64, hash: &ServiceHash, number: u64) -> Opti
     Some(Operation::RemoveSegment)
 }
 
-// Who has removed the segment too.
+// Returns what the last node to leave does after it removed the segment.
 fn cleared(to: &StoredWorld, hash: &ServiceHash, number: u64) -> Option<Operation> {
     if is_published(to, hash, number) {
         return None;

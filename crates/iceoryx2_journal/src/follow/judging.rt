@@ -1,5 +1,5 @@
-//! Whether an access answers what an entry has. `OutOfMemory` where it found no memory, and `Disagrees` for any other
-//! answer.
+//! Compares the answer of an access with an entry. `OutOfMemory` if the access had no memory, and `Disagrees` for any
+//! other answer that differs.
 
 ghost use Rattle.std.specs.Prelude.{◌≡◌, true, false, Ok, Err, is_ok};
 ghost use Rattle.iceoryx2_access.specs.declared.storage.LockError.TheVariants as locking;
@@ -16,7 +16,7 @@ use iceoryx2_access::storage::{
     RemoveError, Tag, TagError,
 };
 
-/// The tag was made. `Disagrees` too where it was there.
+/// Expects that the tag was made. `Disagrees` also if it was there.
 pub fn made_tag(answer: Result<Tag, TagError>) -> Result<(), FollowError>
     ensures { Judges (answer ≡ Ok Made) (is_ok answer ≡ false) (answer ≡ Err tag_error.OutOfMemory) result }
 {
@@ -27,7 +27,7 @@ pub fn made_tag(answer: Result<Tag, TagError>) -> Result<(), FollowError>
     }
 }
 
-/// It was removed.
+/// Expects a removal.
 pub fn removed(answer: Result<(), RemoveError>) -> Result<(), FollowError>
     ensures { Judges (answer ≡ Ok tt) (is_ok answer ≡ false) ⊥ result }
 {
@@ -37,7 +37,7 @@ pub fn removed(answer: Result<(), RemoveError>) -> Result<(), FollowError>
     }
 }
 
-/// The lock was granted, with the entry's number.
+/// Expects a lock with the entry's number.
 pub fn locked(answer: Result<u64, LockError>, number: u64) -> Result<(), FollowError>
     ensures { Judges (answer ≡ Ok number) (is_ok answer ≡ false) (answer ≡ Err locking.OutOfMemory) result }
 {
@@ -48,7 +48,7 @@ pub fn locked(answer: Result<u64, LockError>, number: u64) -> Result<(), FollowE
     }
 }
 
-/// The segment was made.
+/// Expects that the segment was made.
 pub fn made_segment(answer: Result<(), MakeSegmentError>) -> Result<(), FollowError>
     ensures { Judges (answer ≡ Ok tt) (is_ok answer ≡ false) (answer ≡ Err making.OutOfMemory) result }
 {
@@ -59,7 +59,7 @@ pub fn made_segment(answer: Result<(), MakeSegmentError>) -> Result<(), FollowEr
     }
 }
 
-/// The description was published, with the entry's number.
+/// Expects that the description was published with the entry's number.
 pub fn published(answer: Result<u64, PublishError>, number: u64) -> Result<(), FollowError>
     ensures { Judges (answer ≡ Ok number) (is_ok answer ≡ false)
         (answer ≡ Err publishing.OutOfMemory) result }
@@ -71,7 +71,7 @@ pub fn published(answer: Result<u64, PublishError>, number: u64) -> Result<(), F
     }
 }
 
-/// The segment was opened, with the entry's ticket.
+/// Expects that the segment was opened with the entry's ticket.
 pub fn opened(answer: Result<u64, OpenSegmentError>, ticket: u64) -> Result<(), FollowError>
     ensures { Judges (answer ≡ Ok ticket) (is_ok answer ≡ false) (answer ≡ Err opening.OutOfMemory) result }
 {
@@ -82,7 +82,7 @@ pub fn opened(answer: Result<u64, OpenSegmentError>, ticket: u64) -> Result<(), 
     }
 }
 
-/// The ticket was released, whatever that left.
+/// Expects that the ticket was released, whatever is left then.
 pub fn released(answer: Result<Release, ReleaseError>) -> Result<(), FollowError>
     ensures { Judges (is_ok answer ≡ true) (is_ok answer ≡ false) ⊥ result }
 {
@@ -92,7 +92,7 @@ pub fn released(answer: Result<Release, ReleaseError>) -> Result<(), FollowError
     }
 }
 
-// Whether it is the entry's number.
+// Returns an error if the number isn't the entry's.
 fn same(found: u64, number: u64) -> Result<(), FollowError>
     ensures { Judges (found ≡ number) ⊥ ⊥ result }
 {

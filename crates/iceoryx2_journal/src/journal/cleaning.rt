@@ -32,7 +32,7 @@ impl<L: Log> Journal<L> {
         self.adopt_next(node)
     }
 
-    // Takes over what others appended, and puts the node with the own ones.
+    // Takes over what others appended, and makes the node an own one.
     fn adopt_next(&mut self, node: u64) -> Result<(), AdoptError>
         ensures adopts { Adopts L.contents node result self.old self.new }
         ensures hold { KeepsHold L.held self.old self.new }
@@ -69,7 +69,7 @@ impl<L: Log> Journal<L> {
         self.clean_all(node)
     }
 
-    // Releases everything of a node that is not an own one.
+    // Releases everything of a node that isn't an own one.
     fn clean_all(&mut self, node: u64) -> Result<Cleaned, CleanError>
         ensures all { CleansAll L.contents node result self.old self.new }
         ensures hold { KeepsHold L.held self.old self.new }
@@ -85,7 +85,7 @@ impl<L: Log> Journal<L> {
         Err(CleanError::Refused)
     }
 
-    // Takes over what others appended, and gives one thing back that the node has.
+    // Takes over what others appended, and releases one thing that the node has.
     fn clean_next(&mut self, node: u64) -> Step
         ensures next { CleansNext L.contents node result self.old self.new }
         ensures hold { KeepsHold L.held self.old self.new }
@@ -108,20 +108,20 @@ impl<L: Log> Journal<L> {
     /// The error is `Refused` if the log refused, or if the node isn't an own one and has something
     /// to give back. Anything that was given back before stays so, and it can be called again.
     pub fn settle(&mut self, node: u64, spared: &[u64]) -> Result<Cleaned, CleanError>
-        // Each access gives something back that the node owes, and of these the last one may be refused.
+        // Each access releases something that the node owes. Only the last access may be refused.
         ensures settles { SettlesBy node spared.now (λ j. j.world) (IsJournalAccess L.contents) result
             self.old self.new }
         ensures in_world { SettlesInWorld (is_own self.old.nodes) node spared.now result
             self.old.world self.new.world }
 
-        // At Ok the node owes nothing any more.
+        // If the result is `Ok`, the node owes nothing any more.
         ensures rest { OnOk result (OwesNothing self.new.world node spared.now) }
 
-        // Each factory of an own node stands as before, unless it is this node's with a ticket that isn't spared.
+        // Each factory of an own node stands as before, except for factories of this node whose tickets aren't spared.
         ensures stands { (f : Registered) → is_own self.old.nodes f.node ≡ true → IsSpared node spared.now f
             → Agrees self.old.world → Stands self.old.world f → Stands self.new.world f }
 
-        // All is kept that the other own nodes rely on.
+        // Everything that the other own nodes rely on is kept.
         ensures kept { Rely (others_own (is_own self.old.nodes) node) self.old.world self.new.world }
         ensures agrees { Agrees self.old.world → Agrees self.new.world }
         ensures nodes { self.new.nodes ≡ self.old.nodes }
@@ -131,7 +131,7 @@ impl<L: Log> Journal<L> {
         self.settle_all(node, spared)
     }
 
-    // Releases everything that the node owes, one thing after the other.
+    // Releases everything that the node owes, one thing after another.
     fn settle_all(&mut self, node: u64, spared: &[u64]) -> Result<Cleaned, CleanError>
         ensures settles { SettlesBy node spared.now (λ j. j.world) (IsJournalAccess L.contents) result
             self.old self.new }
@@ -149,7 +149,7 @@ impl<L: Log> Journal<L> {
         Err(CleanError::Refused)
     }
 
-    // Gives one thing back that the node owes.
+    // Releases one thing that the node owes.
     fn settle_next(&mut self, node: u64, spared: &[u64]) -> Step
         ensures next { SettlesNext node spared.now (λ j. j.world) (IsJournalAccess L.contents) result
             self.old self.new }

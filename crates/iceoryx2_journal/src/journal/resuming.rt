@@ -32,7 +32,7 @@ impl<L: Log + Drop> Journal<L> {
         is_all
     }
 
-    // As `catch_up`, and compacts nothing.
+    // Does as `catch_up` does, but compacts nothing.
     fn catch_up_plainly(&mut self) -> bool
         ensures takes { Begins L.contents true result self.old self.new }
         ensures hold { KeepsHold L.held self.old self.new }
