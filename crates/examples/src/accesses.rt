@@ -1,4 +1,4 @@
-//! Accesses: a storage of one's own counts what a create and its close ask of a table.
+//! Accesses: a storage of your own counts the accesses that a create and its close ask of a table.
 
 use crate::node::close;
 use anyhow::Result;
@@ -9,7 +9,7 @@ use iceoryx2_service::port_factory::event::PortFactory;
 use iceoryx2_service::table::{Local, Table};
 use std::alloc::Global;
 
-/// A table whose accesses are counted, and the services in it.
+/// The services in a table whose accesses are counted.
 type CountedTable = Counted<Table>;
 
 type CountedLocal = CountedService<Local>;

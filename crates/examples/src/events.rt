@@ -1,4 +1,4 @@
-//! Events: node 1 creates a service, node 2 opens it and reads what was agreed, node 3 asks for more.
+//! Events: node 1 creates a service, node 2 opens it and reads the agreed settings, node 3 asks for more.
 
 use crate::node::{close, refusal, service_builder};
 use anyhow::{Context, Result};
@@ -10,7 +10,7 @@ use std::alloc::Global;
 
 const NAME: &str = "Doors/Opened";
 
-/// Node 1 creates it: room for four listeners, and a notifier has to notify every half a second.
+/// Node 1 creates the service. It has room for four listeners, and a notifier has to notify every half second.
 fn create(alloc: Global, table: &mut Table) -> Result<PortFactory<Local>> {
     let deadline = Duration::new(0, 500_000_000).context("no length of time")?;
     let now = Time::new(12, 0).context("no time")?;
@@ -19,7 +19,7 @@ fn create(alloc: Global, table: &mut Table) -> Result<PortFactory<Local>> {
     Ok(builder.create(table, Ok(now))?)
 }
 
-/// Prints what was agreed.
+/// Prints the agreed settings.
 fn print_facts(rt: &HostRuntime, factory: &PortFactory<Local>) -> Result<()> {
     let settings = factory.static_config();
     let listeners = settings.max_listeners;
@@ -30,7 +30,7 @@ fn print_facts(rt: &HostRuntime, factory: &PortFactory<Local>) -> Result<()> {
     Ok(())
 }
 
-/// Node 2 opens it for three listeners or more, and closes it once it has read what was agreed.
+/// Node 2 opens the service for three listeners or more, reads the agreed settings, and closes it.
 fn read(rt: &HostRuntime, table: &mut Table) -> Result<()> {
     let builder = service_builder(rt.alloc(), 2, NAME)?.event();
     let factory = builder.max_listeners(3).open(table)?;
@@ -46,7 +46,7 @@ fn ask_for_more(alloc: Global, table: &mut Table) -> Result<EventOpenError> {
     refusal(answer, table)
 }
 
-/// Runs the example. Once all nodes have closed the service it is gone.
+/// Runs the example. When all nodes have closed the service, it is gone.
 pub fn run(rt: &HostRuntime, table: &mut Table) -> Result<()> {
     let factory = create(rt.alloc(), table)?;
     let read = read(rt, table);

@@ -1,11 +1,11 @@
-//! Examples that run: what nodes ask of a service, what they agree on, and what is refused.
+//! Examples that run. Nodes ask for a service, agree on its settings, or are refused.
 //!
-//! Each module but `node`, `pose` and `route` is an example. All but `accesses` and `shared` share one table, the
-//! storage in which their services stand.
+//! Each module except `node`, `pose` and `route` is an example. Except for `accesses` and `shared`, the examples keep
+//! their services in one table.
 //!
-//! `Pose` and `Route`, two payload types: the size and the alignment that each states are those of `size_of` and
-//! `align_of`. `buffers::samples`: how many samples a subscriber holds is the sum of both agreed settings, and
-//! `None` exactly where that is 2^64 or more. What they print is stored.
+//! `Pose` and `Route` are two payload types. Each states the size and the alignment that `size_of` and `align_of`
+//! return. `buffers::samples` returns how many samples a subscriber holds: the sum of two agreed settings, or `None`
+//! exactly if that is 2^64 or more. Each run of the examples is compared with a stored output.
 #![tactic(auto)]
 
 mod accesses;
@@ -22,7 +22,7 @@ mod shared;
 use anyhow::Result;
 use iceoryx2_service::table::Table;
 
-/// Runs one example after the other.
+/// Runs one example after another.
 fn run(rt: &HostRuntime, table: &mut Table) -> Result<()> {
     println!(rt; "events: create a service, open it, ask for more than it has")?;
     events::run(rt, table)?;

@@ -1,4 +1,4 @@
-//! What each node of these examples does: it begins a builder, and closes what it opened.
+//! Each node of these examples starts from a builder, and closes what it opened.
 
 use anyhow::{Result, bail};
 use iceoryx2_service::builder::{Builder, Node};
@@ -9,13 +9,13 @@ use iceoryx2_service::storage::Service;
 use iceoryx2_service::table::{Local, Table};
 use std::alloc::Global;
 
-/// The builder of this node for the service of this name. It starts from the default settings.
+/// Returns a builder of this node for the service of this name. It starts from the default settings.
 pub fn service_builder(alloc: Global, node: u64, name: &str) -> Result<Builder<Local>> {
     let name = ServiceName::new(alloc, name)?;
     Ok(Node::<Local>::new(node, Config::default()).service_builder(name))
 }
 
-/// Closes a factory of any pattern. One whose ticket isn't this storage's comes back, and has to be spent too.
+/// Closes a factory of any pattern. If its ticket isn't this storage's, the factory comes back, and is spent too.
 pub fn close<S: Service, K: Kind>(
     factory: PortFactory<S, K>,
     storage: &mut S::Storage,
@@ -32,7 +32,7 @@ pub fn close<S: Service, K: Kind>(
     }
 }
 
-/// Why a call is refused. A factory that it gives in place of an error is closed.
+/// Returns why a call is refused. If the call returns a factory instead of an error, the factory is closed.
 pub fn refusal<K: Kind, E: Drop>(
     answer: Result<PortFactory<Local, K>, E>,
     table: &mut Table,

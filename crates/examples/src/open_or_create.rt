@@ -10,7 +10,7 @@ use std::alloc::Global;
 /// A service of distances.
 type Distances = PortFactory<Local, u64, ()>;
 
-/// A node opens or creates it. It has to have the pair `unit=mm`, and this key with any value.
+/// A node opens or creates the service, which has to have the pair `unit=mm`, and this key with any value.
 fn call(alloc: Global, node: u64, key: &str, table: &mut Table) -> Result<Distances> {
     let mut attributes = AttributeVerifier::new(alloc);
     attributes.require("unit", "mm")?;
@@ -19,7 +19,7 @@ fn call(alloc: Global, node: u64, key: &str, table: &mut Table) -> Result<Distan
     Ok(builder.open_or_create_with_attributes(&attributes, table)?)
 }
 
-/// Prints which node has created the service, and how many attributes it has.
+/// Prints which node created the service, and how many attributes the service has.
 fn print_facts(rt: &HostRuntime, factory: &Distances) -> Result<()> {
     let (node, attributes) = (factory.node(), factory.attributes().len());
     let creator = factory.creator().context("no creator is told")?;
@@ -27,7 +27,7 @@ fn print_facts(rt: &HostRuntime, factory: &Distances) -> Result<()> {
     Ok(())
 }
 
-/// Node 2 opens what node 1 has created. The key that both require is that of their pair, so it is there.
+/// Node 2 opens the service that node 1 created. Both require the key of their own pair, so it is there.
 fn open(rt: &HostRuntime, table: &mut Table) -> Result<()> {
     let factory = call(rt.alloc(), 2, "unit", table)?;
     let printed = print_facts(rt, &factory);
@@ -35,8 +35,8 @@ fn open(rt: &HostRuntime, table: &mut Table) -> Result<()> {
     printed
 }
 
-/// Runs the example. A create defines required pairs and no required keys: nodes 3 and 4 require another
-/// key, node 3 creates the service anew without it, and node 4 finds that it is lacking.
+/// Runs the example. A create defines required pairs, but no required keys. Nodes 3 and 4 require another key.
+/// Node 3 creates the service again without that key, and node 4 is refused, since the key is missing.
 pub fn run(rt: &HostRuntime, table: &mut Table) -> Result<()> {
     let first = call(rt.alloc(), 1, "unit", table)?;
     let opened = open(rt, table);

@@ -1,4 +1,4 @@
-//! A payload type of the examples' own: it says its name, and its size and alignment in bytes.
+//! A payload type that states its name, and its size and alignment in bytes.
 
 ghost use Rattle.std.specs.Prelude.{codes, refl};
 ghost use Rattle.std.proofs.Common.{lit≤};
@@ -8,7 +8,7 @@ ghost use Rattle.iceoryx2_types.specs.Types.{fixed_size};
 use iceoryx2_service::types::{TypeVariant, ZeroCopySend};
 use std::mem::{align_of, size_of};
 
-/// Where a robot stands: two numbers of millimetres, and an angle in thousandths of a degree.
+/// A robot's place in millimetres, and its angle in thousandths of a degree.
 #[derive(Clone, Copy)]
 #[repr(C)]
 pub struct Pose {
@@ -18,7 +18,7 @@ pub struct Pose {
 }
 
 impl ZeroCopySend for Pose {
-    // What it says of itself: name, size and alignment. The methods are proved to say the same.
+    // The name, size and alignment that the methods are proved to return.
     ghost detail = { fixed_size (codes "Pose") 24 8 };
 
     // Its name has 1 to 256 bytes.

@@ -1,4 +1,4 @@
-//! Publish-subscribe: a payload type of one's own, a user header, an alignment, and attributes.
+//! Publish-subscribe: a payload type of your own, a user header, an alignment, and attributes.
 
 use crate::node::{close, refusal, service_builder};
 use crate::pose::Pose;
@@ -13,13 +13,13 @@ use std::alloc::Global;
 /// A service of poses, each with a `u64` as its user header.
 type Poses = PortFactory<Local, Pose, u64>;
 
-/// The builder of a node for it.
+/// Returns a builder of a node for the service.
 fn poses(alloc: Global, node: u64) -> Result<Builder<Pose, u64, Local>> {
     let builder = service_builder(alloc, node, "Robot/Pose")?;
     Ok(builder.publish_subscribe::<Pose>().user_header::<u64>())
 }
 
-/// Node 1 creates it with an attribute, and with each payload at a multiple of 64 bytes.
+/// Node 1 creates the service with an attribute, and with payloads aligned to 64 bytes.
 fn create(alloc: Global, table: &mut Table) -> Result<Poses> {
     let mut attributes = AttributeSpecifier::new(alloc);
     attributes.define("floor", "2")?;
@@ -28,14 +28,14 @@ fn create(alloc: Global, table: &mut Table) -> Result<Poses> {
     Ok(builder.create_with_attributes(&attributes, table)?)
 }
 
-/// A node opens it that requires a floor.
+/// A node that requires a floor opens the service.
 fn open(alloc: Global, node: u64, floor: &str, table: &mut Table) -> Result<Poses> {
     let mut attributes = AttributeVerifier::new(alloc);
     attributes.require("floor", floor)?;
     Ok(poses(alloc, node)?.open_with_attributes(&attributes, table)?)
 }
 
-/// Node 2 opens it, reads what its payload is, and closes it.
+/// Node 2 opens the service, reads the type of its payload, and closes it.
 fn read(rt: &HostRuntime, table: &mut Table) -> Result<()> {
     let factory = open(rt.alloc(), 2, "2", table)?;
     let payload = &factory.static_config().message_type_details.payload;

@@ -1,4 +1,4 @@
-//! Request-response: a number of values as a request, one value as its response, and their buffers.
+//! Request-response: a slice of values as a request, one value as its response, and their buffers.
 
 use crate::node::{close, refusal, service_builder};
 use crate::pose::Pose;
@@ -12,16 +12,16 @@ use std::alloc::Global;
 
 const NAME: &str = "Robot/Plan";
 
-/// A service whose requests are poses that are to be reached, and whose responses are routes.
+/// A service that answers poses, which a robot has to reach, with a route.
 type Planning = PortFactory<Local, Slice<Pose>, (), Route, ()>;
 
-/// Node 1 creates it with room for four responses to each request.
+/// Node 1 creates the service with room for four responses to each request.
 fn create(alloc: Global, table: &mut Table) -> Result<Planning> {
     let builder = service_builder(alloc, 1, NAME)?.request_response::<Slice<Pose>, Route>();
     Ok(builder.max_response_buffer_size(4).create(table)?)
 }
 
-/// Prints what was agreed.
+/// Prints the agreed settings.
 fn print_facts(rt: &HostRuntime, factory: &Planning) -> Result<()> {
     let settings = factory.static_config();
     let request = &settings.request_message_type_details.payload;
@@ -32,7 +32,7 @@ fn print_facts(rt: &HostRuntime, factory: &Planning) -> Result<()> {
     Ok(())
 }
 
-/// Node 2 opens it for two responses or more, reads what was agreed, and closes it.
+/// Node 2 opens the service for two responses or more, reads the agreed settings, and closes it.
 fn read(rt: &HostRuntime, table: &mut Table) -> Result<()> {
     let builder = service_builder(rt.alloc(), 2, NAME)?.request_response::<Slice<Pose>, Route>();
     let factory = builder.max_response_buffer_size(2).open(table)?;
@@ -41,7 +41,7 @@ fn read(rt: &HostRuntime, table: &mut Table) -> Result<()> {
     printed
 }
 
-/// Node 3 sends one pose in each request. So no setting is compared.
+/// Node 3 asks for requests of one pose each. That is another type, so no setting is compared.
 fn refused(alloc: Global, table: &mut Table) -> Result<RequestResponseOpenError> {
     let builder = service_builder(alloc, 3, NAME)?.request_response::<Pose, Route>();
     refusal(builder.max_response_buffer_size(8).open(table), table)

@@ -1,4 +1,4 @@
-//! Another payload type of the examples' own.
+//! A second payload type.
 
 ghost use Rattle.std.specs.Prelude.{codes, refl};
 ghost use Rattle.std.proofs.Common.{lit≤};
@@ -8,7 +8,7 @@ ghost use Rattle.iceoryx2_types.specs.Types.{fixed_size};
 use iceoryx2_service::types::{TypeVariant, ZeroCopySend};
 use std::mem::{align_of, size_of};
 
-/// How long a route is, in millimetres, and how many nanoseconds it takes.
+/// A route's length in millimetres, and its duration in nanoseconds.
 #[derive(Clone, Copy)]
 #[repr(C)]
 pub struct Route {

@@ -1,4 +1,4 @@
-//! Shared: two nodes meet over a log in a file. Here one process has both; each could have its own.
+//! Shared: two nodes meet at a log in a file. Here one process has both nodes. Each could have a process of its own.
 
 use crate::node::close;
 use anyhow::Result;
@@ -12,13 +12,13 @@ use std::alloc::Global;
 use std::random::RandomSource;
 use std::{env, fs};
 
-/// A log in a file that calls hold from their first access to their last, and the services in it.
+/// A log in a file. A call holds it from the call's first access to the last.
 type Log<'a> = CallLog<FileLog<&'a HostRuntime>>;
 
 type SharedFile<'a> = Shared<Log<'a>>;
 
-/// What a process does first: it claims a node, for as long as it keeps the token, opens the log, gives back what the
-/// last process left that was this node, and makes the node its own.
+/// Joins a log as a process does at its start. It claims a node, for as long as it keeps the token, and opens the log.
+/// It releases what the last process of this node left, and makes the node its own.
 fn join<'a>(rt: &'a HostRuntime, path: &str, node: u64) -> Result<(Token, Journal<Log<'a>>)> {
     let token = claim(rt, path, node, Sharing::User)?;
     let log = FileLog::open(
@@ -34,14 +34,14 @@ fn join<'a>(rt: &'a HostRuntime, path: &str, node: u64) -> Result<(Token, Journa
     Ok((token, journal))
 }
 
-/// The builder of a node for the service.
+/// Returns a builder of a node for the service.
 fn lamps<'a>(alloc: Global, node: u64) -> Result<Builder<SharedFile<'a>>> {
     let name = ServiceName::new(alloc, "Lamps")?;
     let builder = Node::<SharedFile<'a>>::new(node, Config::default()).service_builder(name);
     Ok(builder.event())
 }
 
-/// Closes a factory, with the log held from the first access to the last.
+/// Closes a factory, and holds the log from the first access to the last.
 fn close_held<'a, K: Kind>(
     factory: PortFactory<SharedFile<'a>, K>,
     journal: &mut Journal<Log<'a>>,
@@ -52,7 +52,7 @@ fn close_held<'a, K: Kind>(
     closed
 }
 
-/// Node 2 finds the service, and how many listeners were agreed.
+/// Node 2 opens the service, and returns the agreed number of listeners.
 fn find(rt: &HostRuntime, path: &str) -> Result<u64> {
     let (_token, mut journal) = join(rt, path, 2)?;
     let builder = lamps(rt.alloc(), 2)?;
@@ -65,7 +65,7 @@ fn find(rt: &HostRuntime, path: &str) -> Result<u64> {
     Ok(agreed)
 }
 
-/// Node 1 creates it, and node 2 finds it.
+/// Node 1 creates the service, and node 2 finds it.
 fn meet(rt: &HostRuntime, path: &str) -> Result<u64> {
     let (_token, mut journal) = join(rt, path, 1)?;
     let builder = lamps(rt.alloc(), 1)?.max_listeners(4);
