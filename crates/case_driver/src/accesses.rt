@@ -1,4 +1,4 @@
-//! Single accesses as questions: an access with its numbers, of the service that was named last.
+//! Questions that are single accesses. Each is an access to the service that was named last, with its numbers.
 
 use crate::answers::{Said, write_said};
 use crate::case_error::CaseError;
@@ -8,7 +8,7 @@ use iceoryx2_access::storage::Storage;
 use iceoryx2_description::description::ServiceHash;
 use std::alloc::Global;
 
-/// An access that takes numbers alone.
+/// An access that takes only numbers.
 #[derive(Clone, Copy)]
 enum Access {
     Exists,
@@ -23,7 +23,7 @@ enum Access {
     Release,
 }
 
-/// Each of them with how many numbers it takes.
+/// Each such access, and how many numbers it takes.
 const ACCESSES: [(&str, (usize, Access)); 10] = [
     ("exists", (0, Access::Exists)),
     ("counts", (1, Access::Counts)),
@@ -37,7 +37,7 @@ const ACCESSES: [(&str, (usize, Access)); 10] = [
     ("release", (3, Access::Release)),
 ];
 
-/// Makes an access. Numbers that it doesn't take are passed over.
+/// Makes an access. It ignores numbers that the access doesn't take.
 fn make<S: Storage>(
     storage: &mut S,
     hash: &ServiceHash,
@@ -60,7 +60,7 @@ fn make<S: Storage>(
     }
 }
 
-/// The numbers behind an access that takes so many, and zeros behind them.
+/// Returns the `count` numbers of an access, filled up with zeros.
 fn numbers_of(alloc: Global, count: usize, text: &str) -> Result<[u64; 3], CaseError> {
     let numbers = numbers(alloc, text)?;
     if numbers.len() != count {
@@ -74,7 +74,7 @@ fn numbers_of(alloc: Global, count: usize, text: &str) -> Result<[u64; 3], CaseE
     }
 }
 
-/// Fetches for a node. Writes the number and the description's name, or its digits where no description has these bytes.
+/// Fetches for a node. Writes the number and the description's name, or the digits of its bytes if it has no name.
 fn fetch<S: Storage>(
     alloc: Global,
     descriptions: &Descriptions,
@@ -91,7 +91,7 @@ fn fetch<S: Storage>(
     }
 }
 
-/// Publishes a description: a node, a number and its name.
+/// Publishes a description. `rest` has a node, a number and the description's name.
 fn publish<S: Storage>(
     alloc: Global,
     descriptions: &Descriptions,
@@ -107,7 +107,7 @@ fn publish<S: Storage>(
     Ok(write_said(said, text)?)
 }
 
-/// Makes an access, and writes what it answers.
+/// Makes an access, and writes its answer.
 pub fn ask<S: Storage>(
     alloc: Global,
     descriptions: &Descriptions,

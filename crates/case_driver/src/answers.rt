@@ -1,4 +1,4 @@
-//! What accesses answer, in words: a table for both directions.
+//! The answers of accesses, in words. One table serves both directions.
 
 use crate::case_error::CaseError;
 use crate::descriptions::Descriptions;
@@ -10,7 +10,7 @@ use iceoryx2_access::storage::{
 use iceoryx2_testing::script::Answer;
 use std::alloc::{AllocError, Global};
 
-/// What an access answers, but for what it fetches.
+/// The answer of an access, except for bytes that it fetches.
 #[derive(Clone, Copy, PartialEq)]
 pub enum Said {
     Exists(Existence),
@@ -27,7 +27,7 @@ pub enum Said {
     Release(Result<Release, ReleaseError>),
 }
 
-/// All that is said without a number.
+/// All answers without a number.
 const SAID: [(&str, Said); 46] = [
     ("exists No", Said::Exists(Existence::No)),
     ("exists Yes", Said::Exists(Existence::Yes)),
@@ -149,7 +149,7 @@ const SAID: [(&str, Said); 46] = [
     ),
 ];
 
-/// The word of what is said, behind its access.
+/// Returns the word of an answer, which follows the access in its row.
 fn word_of(said: Said) -> &'static str {
     for (words, known) in &SAID {
         if *known == said {
@@ -160,7 +160,7 @@ fn word_of(said: Said) -> &'static str {
     ""
 }
 
-/// Writes a number, or the word of what is said.
+/// Writes the number of an answer, or its word.
 pub fn write_said(said: Said, text: &mut String) -> Result<(), AllocError> {
     match said {
         Said::Lock(Ok(number)) | Said::Publish(Ok(number)) | Said::OpenSegment(Ok(number)) => {
@@ -170,7 +170,7 @@ pub fn write_said(said: Said, text: &mut String) -> Result<(), AllocError> {
     }
 }
 
-/// The answer of a script that says so.
+/// Returns the answer as a script gives it.
 fn answer_of(said: Said) -> Answer {
     match said {
         Said::Exists(answer) => Answer::Exists(answer),
@@ -188,7 +188,7 @@ fn answer_of(said: Said) -> Answer {
     }
 }
 
-/// What an access answers with a number, and with the description of this name.
+/// Returns the answer of an access that has a number. A fetch has the description of this name too.
 fn numbered(
     alloc: Global,
     descriptions: &Descriptions,
@@ -204,7 +204,7 @@ fn numbered(
     }
 }
 
-/// The answer of the words `ACCESS ANSWER`.
+/// Returns the answer that `ACCESS ANSWER` states.
 pub fn answer_in(
     alloc: Global,
     descriptions: &Descriptions,

@@ -1,8 +1,8 @@
-//! That a line can't be carried out.
+//! The error of a line that can't be carried out.
 
 use std::alloc::{AllocError, AllocFailed};
 
-/// A line isn't understood, or memory ran out.
+/// A line isn't understood, or there was no memory.
 #[derive(Clone, Copy)]
 pub struct CaseError;
 
@@ -18,7 +18,7 @@ impl<T: Drop> From<AllocFailed<T>> for CaseError {
     }
 }
 
-/// Writes what a question is answered, or that a line is wrong. A line that is no question has no answer.
+/// Writes the answer to a question, or that a line is wrong. Only questions have an answer.
 pub fn write_answer(
     done: Result<(), CaseError>,
     line: &str,

@@ -1,4 +1,4 @@
-//! Descriptions with names, as bytes.
+//! The bytes of descriptions that have names.
 
 use crate::case_error::CaseError;
 use crate::words::{first_word, number};
@@ -8,13 +8,13 @@ use iceoryx2_description::description::StaticConfig;
 use std::alloc::{AllocError, Global};
 use test_support::lines::{command_in, created};
 
-/// The bytes of descriptions, by their names.
+/// The bytes of descriptions, with their names.
 #[derive(Drop)]
 pub struct Descriptions {
     pub all: Vec<(String, Vec<u8>)>,
 }
 
-/// The call that a line is.
+/// Returns the call that a line states.
 pub fn call_in(alloc: Global, line: &str) -> Result<Call, CaseError> {
     match command_in(alloc, line) {
         Some(Command::Call(call)) => Ok(call),
@@ -22,7 +22,7 @@ pub fn call_in(alloc: Global, line: &str) -> Result<Call, CaseError> {
     }
 }
 
-/// The bytes that hexadecimal digits say.
+/// Returns the bytes that hexadecimal digits encode.
 pub fn bytes_in(alloc: Global, digits: &str) -> Result<Vec<u8>, CaseError> {
     match hex::decode(alloc, digits) {
         Ok(bytes) => Ok(bytes),
@@ -30,7 +30,7 @@ pub fn bytes_in(alloc: Global, digits: &str) -> Result<Vec<u8>, CaseError> {
     }
 }
 
-/// The same description without the creator: the version is that of the form without one, and behind it stands no number.
+/// Returns the bytes of the same description without a creator: in version 1, no number follows the version.
 fn without_creator(alloc: Global, bytes: &[u8]) -> Result<Vec<u8>, AllocError> {
     let mut all = Vec::new(alloc);
     all.extend_from_slice(b"IOX2\x01")?;
@@ -38,7 +38,7 @@ fn without_creator(alloc: Global, bytes: &[u8]) -> Result<Vec<u8>, AllocError> {
     Ok(all)
 }
 
-/// The bytes of a service with its terms, of this creator or of none.
+/// Returns the bytes of a service with its terms and with this creator, or with none.
 fn described(alloc: Global, text: &str, creator: &str) -> Result<Vec<u8>, CaseError> {
     let (pattern, rest) = first_word(text);
     match first_word(creator) {
@@ -56,7 +56,7 @@ fn described(alloc: Global, text: &str, creator: &str) -> Result<Vec<u8>, CaseEr
 }
 
 impl Descriptions {
-    /// Adds what `NAME [by NODE] = PATTERN SERVICE [TERM ..]` or `NAME = hex DIGITS` says.
+    /// Adds the description of `NAME [by NODE] = PATTERN SERVICE [TERM ..]` or `NAME = hex DIGITS`.
     pub fn add(&mut self, alloc: Global, text: &str) -> Result<(), CaseError> {
         let Some((front, meant)) = text.split_once('=') else {
             return Err(CaseError);
@@ -69,7 +69,7 @@ impl Descriptions {
         Ok(self.all.push((String::from_str(alloc, name)?, bytes))?)
     }
 
-    /// The bytes of the last description with this name.
+    /// Returns the bytes of the last description with this name.
     pub fn bytes(&self, name: &str) -> Result<&[u8], CaseError> {
         for (known, bytes) in self.all.iter().rev() {
             if known.as_str() == name {
@@ -79,7 +79,7 @@ impl Descriptions {
         Err(CaseError)
     }
 
-    /// The last description with this name.
+    /// Returns the last description with this name.
     pub fn description(&self, alloc: Global, name: &str) -> Result<StaticConfig, CaseError> {
         match decode(alloc, self.bytes(name)?) {
             Ok(description) => Ok(description),
@@ -87,7 +87,7 @@ impl Descriptions {
         }
     }
 
-    /// Writes the first name of these bytes, or their digits where they have none.
+    /// Writes the first name of these bytes, or their digits if they have no name.
     pub fn write_name(
         &self,
         alloc: Global,

@@ -1,4 +1,4 @@
-//! What nodes of other processes append to the log of a journal.
+//! The entries that nodes of other processes append to the log of a journal.
 
 use crate::case_error::CaseError;
 use crate::descriptions::Descriptions;
@@ -6,7 +6,7 @@ use crate::words::{first_word, numbers};
 use iceoryx2_log::entry::{FormBytes, Operation};
 use std::alloc::Global;
 
-/// The operation of this name with its numbers, of which those that it doesn't take are passed over.
+/// Returns the operation of this name with its numbers. Numbers that it doesn't take are ignored.
 fn operation_of(word: &str, number: u64, second: u64) -> Result<Operation, CaseError> {
     match word {
         "make_tag" => Ok(Operation::MakeTag),
@@ -31,7 +31,7 @@ fn operation_of(word: &str, number: u64, second: u64) -> Result<Operation, CaseE
     }
 }
 
-/// The number at a place, and zero where there is none.
+/// Returns the number at a place, or zero if there is none.
 fn number_at(numbers: &[u64], place: usize) -> u64 {
     match numbers.get(place) {
         Some(number) => *number,
@@ -39,7 +39,7 @@ fn number_at(numbers: &[u64], place: usize) -> u64 {
     }
 }
 
-/// The operation that a text says. What is published has a name behind its number.
+/// Returns the operation that a text states. In a `publish`, the description's name follows the number.
 pub fn operation_in(
     alloc: Global,
     descriptions: &Descriptions,

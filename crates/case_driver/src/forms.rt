@@ -6,7 +6,7 @@ use iceoryx2_data::bytes::{DecodeError, decode};
 use std::alloc::Global;
 use test_support::terms::write_service;
 
-/// Writes the description of these digits in terms, or that they are none.
+/// Writes in terms the description that these digits encode, or `Malformed`.
 pub fn write_decoded(alloc: Global, digits: &str, text: &mut String) -> Result<(), CaseError> {
     let bytes = bytes_in(alloc, digits)?;
     match decode(alloc, &bytes) {
@@ -16,7 +16,7 @@ pub fn write_decoded(alloc: Global, digits: &str, text: &mut String) -> Result<(
     }
 }
 
-/// Writes how many of the proper fronts of these bytes are the form of a description.
+/// Writes how many proper prefixes of these bytes encode a description.
 pub fn write_fronts(alloc: Global, digits: &str, text: &mut String) -> Result<(), CaseError> {
     let bytes = bytes_in(alloc, digits)?;
     let mut forms = 0u64;
@@ -29,14 +29,14 @@ pub fn write_fronts(alloc: Global, digits: &str, text: &mut String) -> Result<()
     Ok(write!(text, "{forms} of {fronts}")?)
 }
 
-/// Changes the byte at a place. The same change once more takes it back.
+/// Flips bits of the byte at a place. A second call with the same bits restores the byte.
 fn change(bytes: &mut Vec<u8>, place: usize, bits: u8) {
     if let Some(byte) = bytes.get_mut(place) {
         *byte ^= bits;
     }
 }
 
-/// Writes for how many changes of one byte there is no description.
+/// Writes how many changes of one byte leave bytes that encode no description.
 pub fn write_changed(alloc: Global, digits: &str, text: &mut String) -> Result<(), CaseError> {
     let mut bytes = bytes_in(alloc, digits)?;
     let changes = bytes.len().saturating_mul(255);

@@ -1,4 +1,4 @@
-//! What lines give: how a run begins, what others do, and what things are called.
+//! What lines give: how a run begins, what others do, and names of descriptions and services.
 
 use crate::answers::answer_in;
 use crate::case_error::CaseError;
@@ -13,10 +13,10 @@ use iceoryx2_testing::script::Answer;
 use std::alloc::Global;
 use test_support::refusing::{Mode, Refused};
 
-/// At most so many batches wait.
+/// The most batches that wait.
 const MOST_BATCHES: u64 = 10_000;
 
-/// What a run is over: a storage, or a whole program.
+/// What answers a run: a storage, or a whole program.
 #[derive(Clone, Copy, PartialEq)]
 pub enum Over {
     Table,
@@ -28,13 +28,13 @@ pub enum Over {
     Script,
     Negotiate,
     Replies,
-    Apart,
+    RepliesAndEmptyLines,
     Explain,
     Diagram,
 }
 
 impl Over {
-    /// Whether it is a journal, beside which others append entries. Beside a table peers take steps.
+    /// Returns whether this is a journal. Others append entries to a journal's log, and peers take steps at a table.
     fn is_journal(self) -> bool {
         match self {
             Over::Journal | Over::Busy | Over::Full => true,
@@ -53,12 +53,12 @@ const OVER: [(&str, Over); 12] = [
     ("script", Over::Script),
     ("negotiate", Over::Negotiate),
     ("replies", Over::Replies),
-    ("apart", Over::Apart),
+    ("replies_and_empty_lines", Over::RepliesAndEmptyLines),
     ("explain", Over::Explain),
     ("diagram", Over::Diagram),
 ];
 
-/// Which line of those that give something.
+/// What a line gives.
 #[derive(Clone, Copy)]
 enum Gift {
     Over,
@@ -81,13 +81,13 @@ const GIFTS: [(&str, Gift); 8] = [
     ("answers:", Gift::Answers),
 ];
 
-/// What is given. Steps and answers go into the storage as it begins, all else is asked for later too.
+/// All that lines gave. Steps, entries and answers go into the storage when it is made. The rest is used later too.
 pub struct Given {
     pub over: Over,
     pub counter: u64,
     pub refused: Vec<u64>,
     pub batches: Vec<Vec<Step>>,
-    /// What others append before each hold of a journal's log.
+    /// The entries that others append before each hold of a journal's log.
     pub entries: Vec<Vec<Entry>>,
     pub answers: Vec<Answer>,
     pub descriptions: Descriptions,
@@ -98,13 +98,13 @@ pub struct Given {
     pub said: Vec<String>,
     /// The program's input.
     pub input: Vec<u8>,
-    /// Which request for memory is refused of the question that is to be asked so.
+    /// Which request for memory is refused of the question that is starved.
     pub starving: Option<(Mode, u16)>,
-    /// How many of its requests were refused.
+    /// How many requests of that question were refused.
     pub refusals: Refused,
 }
 
-// Written out, so that a proof of what lets one go doesn't take its fields apart.
+// Written out, so that the proof of a function that drops a `Given` doesn't go through its fields.
 impl Drop for Given {
     fn drop(self) {
         let Given {
@@ -125,12 +125,12 @@ impl Drop for Given {
     }
 }
 
-/// What stands before a word, and what behind it.
+/// Returns the texts before and after a word. The second is empty if the text doesn't have the word.
 fn around<'a>(text: &'a str, word: &str) -> (&'a str, &'a str) {
     text.split_once(word).unwrap_or((text, ""))
 }
 
-/// The act that a text says.
+/// Returns the act that a text states.
 fn act_in(alloc: Global, descriptions: &Descriptions, text: &str) -> Result<Act, CaseError> {
     let (word, rest) = first_word(text);
     match word {
@@ -148,7 +148,7 @@ fn act_in(alloc: Global, descriptions: &Descriptions, text: &str) -> Result<Act,
     }
 }
 
-/// Adds the steps of a peer at a service.
+/// Adds a peer's steps at a service.
 fn push_steps(
     alloc: Global,
     descriptions: &Descriptions,
@@ -162,7 +162,7 @@ fn push_steps(
     Ok(())
 }
 
-/// Adds the entries of a node at a service.
+/// Adds a node's entries of a service.
 fn push_entries(
     alloc: Global,
     descriptions: &Descriptions,
@@ -180,7 +180,7 @@ fn push_entries(
     Ok(())
 }
 
-/// Adds batches up to the one before an access, and gives its place.
+/// Adds empty batches up to the one before an access, and returns the place of that batch.
 fn make_room<T: Drop>(
     alloc: Global,
     batches: &mut Vec<Vec<T>>,
@@ -196,7 +196,7 @@ fn make_room<T: Drop>(
 }
 
 impl Given {
-    /// Nothing is given: an empty script.
+    /// Returns an empty script, for which nothing is given.
     pub fn new(alloc: Global) -> Given {
         Given {
             over: Over::Script,
@@ -220,7 +220,7 @@ impl Given {
         }
     }
 
-    /// Takes over a line that is no question.
+    /// Adds what a line gives that isn't a question.
     pub fn add(&mut self, alloc: Global, line: &str) -> Result<(), CaseError> {
         if line.starts_with('>') {
             return self.add_input(alloc, line);
@@ -240,7 +240,8 @@ impl Given {
         }
     }
 
-    /// Adds to a program's input: `> TEXT` and an end of line, `>> TEXT` without one, or the bytes of `>= DIGITS`.
+    /// Adds to a program's input: the text of `> TEXT` with a line end, that of `>> TEXT` without, or the bytes of
+    /// `>= DIGITS`.
     fn add_input(&mut self, alloc: Global, line: &str) -> Result<(), CaseError> {
         if let Some(digits) = line.strip_prefix(">= ") {
             let bytes = bytes_in(alloc, digits)?;
@@ -269,7 +270,7 @@ impl Given {
         Ok(())
     }
 
-    /// Adds the steps of a peer, `NODE before N ..: STEP, ..`, to the batches before these accesses.
+    /// Adds the steps of `NODE before N ..: STEP, ..` to the batches before accesses `N`.
     fn add_steps(&mut self, alloc: Global, text: &str) -> Result<(), CaseError> {
         let (front, steps) = around(text, ":");
         let (peer, accesses) = around(front, " before ");
@@ -280,7 +281,7 @@ impl Given {
         Ok(())
     }
 
-    /// Adds them to the batch before an access.
+    /// Adds a peer's steps to the batch before an access.
     fn add_batch(
         &mut self,
         alloc: Global,
@@ -299,7 +300,7 @@ impl Given {
         }
     }
 
-    /// Adds the entries of a node, `NODE before N: OPERATION, ..`, to those that come before this access.
+    /// Adds the entries of `NODE before N: OPERATION, ..` to those before hold `N` of the log.
     fn add_entries(&mut self, alloc: Global, text: &str) -> Result<(), CaseError> {
         let (front, operations) = around(text, ":");
         let (node, access) = around(front, " before ");
@@ -317,7 +318,7 @@ impl Given {
         }
     }
 
-    /// Adds answers of a script.
+    /// Adds a script's answers.
     fn add_answers(&mut self, alloc: Global, all: &str) -> Result<(), CaseError> {
         for text in all.split(',') {
             let text = text.trim();

@@ -1,4 +1,4 @@
-//! Services and nodes that a run has named.
+//! The services and nodes that a run named.
 
 use crate::case_error::CaseError;
 use crate::words::{first_word, named};
@@ -6,17 +6,18 @@ use iceoryx2_access::storage::{ServiceNameHasher, Sha1Hasher};
 use iceoryx2_description::description::{ServiceHash, ServiceName};
 use std::alloc::{AllocError, Global};
 
-/// Services and nodes, each once, in the order in which they came. A service has its pattern and name, and its hash.
+/// Services and nodes, each once, in the order in which they were named. A service has its pattern and name, and its
+/// hash.
 #[derive(Drop)]
 pub struct Known {
     pub services: Vec<(String, ServiceHash)>,
     pub nodes: Vec<u64>,
 }
 
-/// The first byte of what is hashed.
+/// The byte that is hashed before the name.
 const PREFIXES: [(&str, u8); 3] = [("event", b'e'), ("pubsub", b'p'), ("rr", b'r')];
 
-/// The hash of the service `PATTERN NAME`.
+/// Returns the hash of the service `PATTERN NAME`.
 pub fn hash_of(alloc: Global, service: &str) -> Result<ServiceHash, CaseError> {
     let (pattern, name) = first_word(service);
     let prefix = named(&PREFIXES, pattern)?;
@@ -27,12 +28,12 @@ pub fn hash_of(alloc: Global, service: &str) -> Result<ServiceHash, CaseError> {
 }
 
 impl Known {
-    /// Whether a service of this hash was named.
+    /// Returns whether a service of this hash was named.
     pub fn has(&self, hash: &ServiceHash) -> bool {
         self.services.iter().any(|service| service.1 == *hash)
     }
 
-    /// How a service of this hash was named, if it was.
+    /// Returns the pattern and name of the service of this hash, if it was named.
     pub fn title(&self, hash: &ServiceHash) -> Option<&str> {
         for (title, named) in &self.services {
             if named == hash {
@@ -42,7 +43,7 @@ impl Known {
         None
     }
 
-    /// Adds the service `PATTERN NAME`, and returns its hash.
+    /// Adds the service `PATTERN NAME` if it is new, and returns its hash.
     pub fn add_service(&mut self, alloc: Global, service: &str) -> Result<ServiceHash, CaseError> {
         let hash = hash_of(alloc, service)?;
         if !self.has(&hash) {
@@ -52,7 +53,7 @@ impl Known {
         Ok(hash)
     }
 
-    /// Adds a node.
+    /// Adds a node if it is new.
     pub fn add_node(&mut self, node: u64) -> Result<(), AllocError> {
         if !self.nodes.iter().any(|other| *other == node) {
             self.nodes.push(node)?;

@@ -1,4 +1,4 @@
-//! What is left in a storage, as a text. Each part is written behind a separator, and the first separator is cut off.
+//! All that is left in a storage, as a text. Each part follows a separator, and the first separator is removed.
 
 use crate::known::Known;
 use crate::subject::{Seen, Subject};
@@ -27,7 +27,7 @@ fn write_segment(segment: ListedSegment, text: &mut String) -> Result<(), AllocE
     write!(text, ", segment {number} {participants}/{max_nodes}{mark}")
 }
 
-/// Writes what is listed under a hash.
+/// Writes the row and the segment that are listed for a hash.
 fn write_entries(
     entries: &[Entry],
     hash: &ServiceHash,
@@ -44,7 +44,7 @@ fn write_entries(
     Ok(())
 }
 
-/// Writes whether a node has a tag and how many tickets.
+/// Writes whether a node has a tag, and how many tickets it has.
 fn write_held(
     node: u64,
     (has_tag, tickets): (bool, u64),
@@ -59,7 +59,7 @@ fn write_held(
     }
 }
 
-/// Writes what there is of a service, and of which service, where several are named.
+/// Writes all that there is of a service. The service's name comes first if several services were named.
 fn write_service<S: Subject>(
     alloc: Global,
     storage: &S,
@@ -82,7 +82,7 @@ fn write_service<S: Subject>(
     write!(text, "; {part}")
 }
 
-/// Writes the hashes that are listed without having been named.
+/// Writes the hashes that are listed, but belong to no service that was named.
 fn write_others(
     alloc: Global,
     entries: &[Entry],
@@ -98,7 +98,7 @@ fn write_others(
     Ok(())
 }
 
-/// Writes the counts of a storage, of which none is told where it is none.
+/// Writes the next number of a storage, its counts that aren't zero, and its note.
 fn write_counts(seen: &Seen, text: &mut String) -> Result<(), AllocError> {
     if let Some(counter) = seen.counter {
         write!(text, "; counter {counter}")?;
@@ -118,7 +118,7 @@ fn write_counts(seen: &Seen, text: &mut String) -> Result<(), AllocError> {
     Ok(())
 }
 
-/// Writes those of a script's answers that weren't taken.
+/// Writes the answers of a script that weren't taken.
 fn write_answers(answers: &[String], unsaid: usize, text: &mut String) -> Result<(), AllocError> {
     let said = answers.len().saturating_sub(unsaid);
     let mut is_first = true;
@@ -134,7 +134,7 @@ fn write_answers(answers: &[String], unsaid: usize, text: &mut String) -> Result
     Ok(())
 }
 
-/// Writes all that a storage has. `answers` are those that its script began with.
+/// Writes all that is left in a storage. `answers` are all that its script began with.
 pub fn write_left<S: Subject>(
     alloc: Global,
     storage: &S,
@@ -152,7 +152,7 @@ pub fn write_left<S: Subject>(
     text.push_str(all.as_str().strip_prefix("; ").unwrap_or("nothing"))
 }
 
-/// Writes what is listed of a service, behind its name, or behind its hash where it wasn't named.
+/// Writes what is listed of a service, after its name, or after its hash if it wasn't named.
 fn write_listed(
     alloc: Global,
     entry: &Entry,
@@ -174,7 +174,7 @@ fn write_listed(
     }
 }
 
-/// Writes what a storage lists, in the order of its listing.
+/// Writes all that a storage lists, in its order.
 pub fn write_list<S: Subject>(
     alloc: Global,
     storage: &S,
@@ -189,7 +189,7 @@ pub fn write_list<S: Subject>(
     text.push_str(all.as_str().strip_prefix("; ").unwrap_or("nothing"))
 }
 
-/// Writes the lines by which the programs list what a storage has, with semicolons between.
+/// Writes the lines that the programs' `list` prints, with semicolons between them.
 pub fn write_services<S: Subject>(
     alloc: Global,
     storage: &S,

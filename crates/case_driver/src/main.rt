@@ -1,9 +1,9 @@
-//! The program `case_driver`: plain commands in, a line each, and the answer to each question out.
+//! The program `case_driver` reads commands, a line each, and writes the answer to each question.
 //!
-//! `over` or `program` begins a run: a storage, or a whole program. Other lines give what stands there and what others do
-//! meanwhile; those that begin with `? ` are questions, and those with `! ` are questions that are asked while memory is
-//! refused. The driver compares nothing and knows no case: what it is to answer
-//! stands beside the cases. Only that it is safe and ends is proved of it.
+//! A line with `over` or `program` begins a run over a storage, or over a whole program. Other lines give the services
+//! there, and what others do meanwhile. A line that begins with `? ` is a question. One that begins with `! ` is asked
+//! while memory is refused. The driver knows no case and compares nothing: the wanted answers are in the cases. Only
+//! its safety and its end are proved.
 #![tactic(auto)]
 
 mod accesses;
@@ -26,14 +26,14 @@ mod words;
 use crate::starve::carry_out_all;
 use std::io;
 
-/// Carries out the lines of one run, and prints what they are answered.
+/// Carries out the lines of one run, and prints the answers.
 fn print_run(rt: &HostRuntime, lines: &[&str]) -> io::Result<()> {
     let mut text = String::new(rt.alloc());
     carry_out_all(rt.alloc(), lines, &mut text)?;
     print!(rt; "{text}")
 }
 
-/// Carries out run after run.
+/// Carries out all runs of an input, one after another.
 fn print_runs(rt: &HostRuntime, input: &str) -> io::Result<()> {
     let mut run = Vec::new(rt.alloc());
     for line in input.lines() {

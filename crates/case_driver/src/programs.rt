@@ -1,4 +1,4 @@
-//! Whole programs: an input in, what they print out.
+//! Runs whole programs on an input, and writes what they print.
 
 use crate::case_error::CaseError;
 use crate::given::Over;
@@ -17,7 +17,7 @@ use std::io::BufReader;
 /// More lines than any input has.
 const MOST_LINES: u64 = 1_000_000;
 
-/// Answers each line of an input, also those that are no command.
+/// Answers each line of an input, also a line that is no command.
 fn answer_all(
     alloc: Global,
     wrong_lines: WrongLines,
@@ -35,7 +35,7 @@ fn answer_all(
     Err(ServeError::TooManyLines)
 }
 
-/// Answers each line of these bytes over a table of its own, as sessions of `wulameron` do.
+/// Answers each line of an input over a new table, as a session of `wulameron` does.
 fn reply(
     alloc: Global,
     wrong_lines: WrongLines,
@@ -51,7 +51,7 @@ fn reply(
     ended
 }
 
-/// Runs a program on an input, and returns how it ended. The page takes what it prints.
+/// Runs a program on an input, and returns how it ended. It prints on the page.
 fn serve(
     alloc: Global,
     over: Over,
@@ -62,12 +62,12 @@ fn serve(
         Over::Explain => explain(alloc, input, page, Format::Lines),
         Over::Diagram => explain(alloc, input, page, Format::Diagram),
         Over::Replies => reply(alloc, WrongLines::Reply, input, page),
-        Over::Apart => reply(alloc, WrongLines::ReplyAndEmptyLine, input, page),
+        Over::RepliesAndEmptyLines => { reply(alloc, WrongLines::ReplyAndEmptyLine, input, page) }
         _ => negotiate(alloc, input, page),
     }
 }
 
-/// Writes what stands on a page.
+/// Writes the text of a page.
 fn write_page(page: &[u8], text: &mut String) -> Result<(), CaseError> {
     match std::str::from_utf8(page) {
         Ok(printed) => Ok(text.push_str(printed)?),
@@ -89,7 +89,7 @@ pub fn write_served(
     Ok(write!(text, "status {status}")?)
 }
 
-/// Writes what it prints on the standard error, or that this is nothing.
+/// Writes what a program prints on its standard error for an input, or `nothing`.
 pub fn write_said(
     alloc: Global,
     over: Over,

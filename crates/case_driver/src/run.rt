@@ -1,4 +1,4 @@
-//! A run over one storage: each question is asked, and its answer written.
+//! A run over one storage: it asks each question, and writes its answer.
 
 use crate::case_error::{CaseError, write_answer};
 use crate::descriptions::call_in;
@@ -20,7 +20,7 @@ use std::mem;
 use test_support::places::{Closing, Places};
 use test_support::terms::write_factory;
 
-/// Services that stand in a storage of this type.
+/// The services in a storage of this type.
 struct Standing<S> {
     storage: PhantomData<S>,
 }
@@ -31,14 +31,14 @@ impl<S: Storage> Service for Standing<S> {
     type ServiceNameHasher = Sha1Hasher;
 }
 
-/// The storage of a run, and the slots.
+/// The storage of a run, and its slots.
 #[derive(Drop)]
 pub struct Run<S> {
     storage: Faulty<S>,
     places: Places,
 }
 
-/// A question that is no single access.
+/// A question that isn't a single access.
 #[derive(Clone, Copy)]
 enum Question {
     Call,
@@ -53,7 +53,7 @@ enum Question {
     Value(Value),
 }
 
-/// A question that is asked of no storage.
+/// A question that needs no storage.
 #[derive(Clone, Copy)]
 enum Value {
     Serve,
@@ -94,7 +94,7 @@ const QUESTIONS: [(&str, Question); 22] = [
     ("compatible", Question::Value(Value::Compatible)),
 ];
 
-/// Writes what a question is answered that is asked of no storage.
+/// Writes the answer to a question that needs no storage.
 fn answer_value(
     alloc: Global,
     given: &Given,
@@ -121,7 +121,7 @@ fn answer_value(
 }
 
 impl<S: Subject> Run<S> {
-    /// Writes what a question is answered.
+    /// Writes the answer to a question.
     pub fn answer(
         &mut self,
         alloc: Global,
@@ -172,7 +172,7 @@ impl<S: Subject> Run<S> {
         Ok(describe(&reply, slot, text)?)
     }
 
-    /// Closes a slot, and writes what that answers.
+    /// Closes a slot, and writes the answer.
     fn close(&mut self, slot: usize, text: &mut String) -> Result<(), CaseError> {
         match self.places.close(slot, &mut self.storage) {
             Closing::None(reply) => Ok(describe(&reply, slot, text)?),
@@ -182,7 +182,7 @@ impl<S: Subject> Run<S> {
         }
     }
 
-    /// Abandons what a slot holds, and writes that, or that it holds nothing.
+    /// Abandons what a slot holds, and writes `abandoned`, or that the slot is empty.
     fn abandon(&mut self, slot: usize, text: &mut String) -> Result<(), CaseError> {
         match self.places.abandon(slot) {
             None => Ok(text.push_str("abandoned")?),
@@ -190,7 +190,7 @@ impl<S: Subject> Run<S> {
         }
     }
 
-    /// Makes a single access. The node is its first number, but that of a release its second.
+    /// Makes a single access. Its first number is the node, except for a release, whose second number is the node.
     fn access(
         &mut self,
         alloc: Global,
@@ -211,7 +211,7 @@ impl<S: Subject> Run<S> {
         accesses::ask(alloc, descriptions, (storage, &hash), (name, rest), text)
     }
 
-    /// Writes how often the storage was asked.
+    /// Writes how many accesses the storage was asked for.
     fn write_counts(&self, text: &mut String) -> Result<(), AllocError> {
         let (accesses, looks) = (self.storage.accesses(), self.storage.looks());
         let (openings, makings) = (self.storage.openings(), self.storage.makings());

@@ -1,5 +1,5 @@
-//! A question that is asked while a request for memory is refused: the first one, the second one, and each further one, until
-//! none is. Each time the run begins anew.
+//! Asks a question while its first request for memory is refused, then its second, and so on, until none is refused.
+//! The run starts again for each of them.
 
 use crate::case_error::{CaseError, write_answer};
 use crate::given::Given;
@@ -12,10 +12,10 @@ use test_support::refusing::{MODES, Mode, Refused, end, refuse};
 /// More requests than a question makes.
 const MOST: u16 = 1000;
 
-/// So many bytes of an answer ask for no memory as they are written.
+/// The most bytes of an answer. Room for them is asked for before memory is refused.
 const ROOM: usize = 0x1_0000;
 
-/// The word of a mode.
+/// Returns the word of a mode.
 fn word_of(mode: Mode) -> &'static str {
     match mode {
         Mode::Alone => "alone",
@@ -23,7 +23,7 @@ fn word_of(mode: Mode) -> &'static str {
     }
 }
 
-/// The word of how many requests were refused.
+/// Returns the word of how many requests were refused.
 fn count_of(refused: Refused) -> &'static str {
     match refused {
         Refused::None => "none",
@@ -32,8 +32,8 @@ fn count_of(refused: Refused) -> &'static str {
     }
 }
 
-/// Writes what a try came to: its mode, its number, how many requests were refused, and the answer. Where one was refused
-/// outside of what is asked, there is none.
+/// Writes the outcome of a try: its mode, its number, how many requests were refused, and the answer. If a request
+/// outside of the question was refused, there is no answer.
 fn write_try(
     ((mode, number), refused): ((Mode, u16), Refused),
     (done, question): (Result<(), CaseError>, &str),
@@ -48,7 +48,7 @@ fn write_try(
     }
 }
 
-/// Asks with ample memory what is left, the same question again, and what is left then.
+/// Asks with memory what is left, then the same question again, and then what is left.
 fn ask_again<S: Subject>(
     alloc: Global,
     given: &mut Given,
@@ -65,7 +65,7 @@ fn ask_again<S: Subject>(
     Ok(())
 }
 
-/// Asks a question while a request is refused, and then with ample memory. What was answered before it is passed over.
+/// Asks a question while a request is refused, and then with memory. It drops the answers to the questions before it.
 pub fn ask<S: Subject>(
     alloc: Global,
     given: &mut Given,
@@ -87,7 +87,7 @@ pub fn ask<S: Subject>(
     ask_again(alloc, given, run, question, text)
 }
 
-/// Carries out a run with each request of its question refused in turn, until none is.
+/// Carries out a run for each request of its question, and refuses that request, until none is refused.
 fn starve(alloc: Global, mode: Mode, lines: &[&str], text: &mut String) -> Result<(), AllocError> {
     let mut page = String::new(alloc);
     for number in 1u16..MOST {
@@ -101,7 +101,7 @@ fn starve(alloc: Global, mode: Mode, lines: &[&str], text: &mut String) -> Resul
     Ok(())
 }
 
-/// Carries out a run, or one whose last question is starved again and again.
+/// Carries out a run once, or once for each request that is refused if a question is to be starved.
 pub fn carry_out_all(alloc: Global, lines: &[&str], text: &mut String) -> Result<(), AllocError> {
     if !lines.iter().any(|line| line.starts_with("! ")) {
         let _none = carry_out(alloc, None, lines, text)?;

@@ -1,4 +1,4 @@
-//! Runs over each storage.
+//! Carries out runs over each storage.
 
 use crate::case_error::write_answer;
 use crate::given::{Given, Over};
@@ -16,10 +16,10 @@ use std::mem;
 use test_support::plain::PlainTable;
 use test_support::refusing::{Mode, Refused};
 
-/// The nodes of the journal's process.
+/// The own nodes of a journal.
 const OWN_NODES: [u64; 6] = [1, 2, 3, 4, 5, 6];
 
-/// Over a table of vectors or of maps in chunks.
+/// Carries out a run over a table of vectors, or one of maps in chunks.
 fn over_table<W: OwnParts>(
     alloc: Global,
     given: &mut Given,
@@ -31,7 +31,7 @@ fn over_table<W: OwnParts>(
     run_lines(alloc, given, table, lines, text)
 }
 
-/// Over the plain table, which begins at 0.
+/// Carries out a run over the plain table, whose numbers begin at 0.
 fn over_plain(
     alloc: Global,
     given: &mut Given,
@@ -43,7 +43,8 @@ fn over_plain(
     run_lines(alloc, given, table, lines, text)
 }
 
-/// A log that is empty at first. What is refused are accesses of the journal, holds of its log, or appends to it.
+/// Returns an empty log, with the entries that others append later. It is busy for the numbered holds of a busy log, and
+/// refuses the numbered appends to a full one.
 fn log_of(alloc: Global, given: &mut Given) -> Result<MemoryLog, AllocError> {
     let mut log = MemoryLog::from_entries(alloc, Vec::new(alloc), 0);
     for entries in mem::replace(&mut given.entries, Vec::new(alloc)) {
@@ -57,7 +58,7 @@ fn log_of(alloc: Global, given: &mut Given) -> Result<MemoryLog, AllocError> {
     Ok(log)
 }
 
-/// Over a journal on a log in memory.
+/// Carries out a run over a journal on a log in memory.
 fn over_journal(
     alloc: Global,
     given: &mut Given,
@@ -70,7 +71,7 @@ fn over_journal(
     run_lines(alloc, given, journal, lines, text)
 }
 
-/// Over a script of answers.
+/// Carries out a run over a script of answers.
 fn over_script(
     alloc: Global,
     given: &mut Given,
@@ -81,7 +82,7 @@ fn over_script(
     run_lines(alloc, given, script, lines, text)
 }
 
-/// Takes over lines, and writes which of them are wrong.
+/// Adds what lines give, and writes which lines are wrong.
 fn take_over(
     alloc: Global,
     given: &mut Given,
@@ -94,14 +95,14 @@ fn take_over(
     Ok(())
 }
 
-/// Whether a line is a question.
+/// Returns whether a line is a question.
 fn is_question(line: &str) -> bool {
     line.starts_with("? ") || line.starts_with("! ")
 }
 
-/// Carries out the lines of a run, and writes what they are answered. The storage is made after the lines before the first
-/// question. A program has none: what it is asked beside stands over an empty script. Returns how many requests for memory
-/// were refused, which are those of its question that is starved.
+/// Carries out the lines of a run, and writes the answers. The storage begins with all that the lines before the first
+/// question give. A program has no storage: its other questions are asked of an empty script. Returns how many requests
+/// for memory were refused of the question that is starved.
 pub fn carry_out(
     alloc: Global,
     starving: Option<(Mode, u16)>,

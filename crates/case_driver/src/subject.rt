@@ -1,4 +1,4 @@
-//! What is seen of the storages that runs are over.
+//! What a run sees of its storage.
 
 use crate::case_error::CaseError;
 use iceoryx2_access::storage::Storage;
@@ -14,35 +14,35 @@ use iceoryx2_world::listing::Entry;
 use std::alloc::{AllocError, Global};
 use test_support::plain::PlainTable;
 
-/// What is seen of a storage.
+/// What a run sees of a storage.
 #[derive(Drop)]
 pub struct Seen {
     /// Each service with a row or a segment.
     pub entries: Vec<Entry>,
-    /// The next number, where it hands out numbers.
+    /// The next number, if the storage hands out numbers.
     pub counter: Option<u64>,
     /// How many batches wait.
     pub pending: usize,
-    /// How many of their steps found no memory.
+    /// How many steps of peers were skipped, since there was no memory.
     pub skipped: u64,
-    /// How many of its answers weren't taken.
+    /// How many answers of a script weren't taken.
     pub unsaid: usize,
-    /// What else is to be told of it, if anything is.
+    /// A note on the storage, or nothing.
     pub note: &'static str,
 }
 
-/// A storage that runs are over. What it tells makes no access.
+/// A storage of runs. `seen` and `held` make no access.
 pub trait Subject: Storage + Drop {
-    /// What there is of all services.
+    /// Returns what there is of all services.
     fn seen(&self, alloc: Global) -> Result<Seen, AllocError>;
 
-    /// Whether the node has a tag for the service, and how many tickets.
+    /// Returns whether the node has a tag for the service, and how many tickets it has.
     fn held(&self, node: u64, hash: &ServiceHash) -> (bool, u64);
 
-    /// Cleans up for a node of another process, and writes what was given back. Only a journal can.
+    /// Cleans up for a node of another process, and writes what was released. Only a journal can.
     fn clean_up(&mut self, node: u64, text: &mut String) -> Result<(), CaseError>;
 
-    /// Makes such a node an own one, and writes whether it is.
+    /// Makes a node of another process an own one, and writes the outcome. Only a journal can.
     fn take_in(&mut self, node: u64, text: &mut String) -> Result<(), CaseError>;
 }
 
@@ -96,7 +96,7 @@ impl Subject for PlainTable {
     }
 }
 
-/// The number of the first lock, at which a journal's numbers begin.
+/// Returns the number of the first lock, at which a journal's numbers begin.
 fn first_number(entries: &[LogEntry]) -> u64 {
     for entry in entries {
         if let Operation::Lock { number } = entry.operation {
@@ -106,7 +106,7 @@ fn first_number(entries: &[LogEntry]) -> u64 {
     0
 }
 
-/// What a process lists that begins with these entries, and has no node of its own.
+/// Returns the listing of a process that starts with these entries, and has no node of its own.
 fn listed_anew(alloc: Global, entries: &[LogEntry]) -> Result<Vec<Entry>, AllocError> {
     let mut copies = Vec::new(alloc);
     for entry in entries {
@@ -119,7 +119,7 @@ fn listed_anew(alloc: Global, entries: &[LogEntry]) -> Result<Vec<Entry>, AllocE
     journal.list()
 }
 
-/// That a journal is over, or that another process would list something else.
+/// Returns a note if a journal is over, or if another process would list something else.
 fn note_of(alloc: Global, journal: &Journal<MemoryLog>) -> Result<&'static str, AllocError> {
     if journal.is_over() {
         return Ok("over");

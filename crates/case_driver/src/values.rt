@@ -14,7 +14,7 @@ const VARIANTS: [(&str, TypeVariant); 2] = [
     ("dynamic", TypeVariant::Dynamic),
 ];
 
-/// The name of an error of attributes.
+/// Returns the name of an error of attributes.
 fn name_of(error: AttributeError) -> &'static str {
     match error {
         AttributeError::KeyLength => "KeyLength",
@@ -24,12 +24,12 @@ fn name_of(error: AttributeError) -> &'static str {
     }
 }
 
-/// The text that a word is: one of no bytes is written as two quotes.
+/// Returns the text of a word. Two quotes state an empty text.
 fn text_in(word: &str) -> &str {
     if word == "\"\"" { "" } else { word }
 }
 
-/// Defines pairs `K V; K V; ..`. Where one is refused, its place and why.
+/// Defines the pairs `K V; K V; ..`, or returns the place of the first pair that is refused, and why.
 fn define(specifier: &mut AttributeSpecifier, pairs: &str) -> Result<(), (u64, AttributeError)> {
     let mut place = 0u64;
     for pair in pairs.split(';') {
@@ -43,7 +43,7 @@ fn define(specifier: &mut AttributeSpecifier, pairs: &str) -> Result<(), (u64, A
     Ok(())
 }
 
-/// Writes the pairs that are defined so, in their order, or the first refusal with its place.
+/// Defines pairs, and writes all pairs in their order, or the first refusal with its place.
 pub fn write_defined(alloc: Global, pairs: &str, text: &mut String) -> Result<(), CaseError> {
     let mut specifier = AttributeSpecifier::new(alloc);
     if let Err((place, error)) = define(&mut specifier, pairs) {
@@ -57,7 +57,7 @@ pub fn write_defined(alloc: Global, pairs: &str, text: &mut String) -> Result<()
     Ok(())
 }
 
-/// Requires the pairs and keys of `K:V .. | K ..`, or puts the pairs into a set that is to have them.
+/// Requires the pairs and keys of `K:V .. | K ..`, or defines the pairs in a set if `are_had`.
 fn require(
     verifier: &mut AttributeVerifier,
     set: &mut AttributeSpecifier,
@@ -74,7 +74,7 @@ fn require(
     Ok(())
 }
 
-/// Writes the first key that a set lacks of what is required, `PAIRS | KEYS | SET`, or that it is met.
+/// Writes the first key of `PAIRS | KEYS` that the set of `PAIRS | KEYS | SET` lacks, or `met`.
 pub fn write_required(alloc: Global, text: &str, answer: &mut String) -> Result<(), CaseError> {
     let Some((required, had)) = text.rsplit_once('|') else {
         return Err(CaseError);
@@ -92,7 +92,7 @@ pub fn write_required(alloc: Global, text: &str, answer: &mut String) -> Result<
     }
 }
 
-/// The parts of a type `VARIANT NAME SIZE ALIGNMENT`, with such a character between them.
+/// Returns the parts of a type `VARIANT NAME SIZE ALIGNMENT`, which this character separates.
 fn parts_of(text: &str, separator: char) -> Option<(&str, &str, &str, &str)> {
     let (variant, rest) = text.trim().split_once(separator)?;
     let (rest, alignment) = rest.rsplit_once(separator)?;
@@ -100,7 +100,7 @@ fn parts_of(text: &str, separator: char) -> Option<(&str, &str, &str, &str)> {
     Some((variant, name, size, alignment))
 }
 
-/// A type of these parts, or why there is none.
+/// Returns the type of these parts, or why there is none.
 fn detail_in(
     alloc: Global,
     text: &str,
@@ -114,7 +114,7 @@ fn detail_in(
     Ok(TypeDetail::new(alloc, variant, text_in(name), size, alignment))
 }
 
-/// Writes a type as it is told, or why there is none.
+/// Writes a type as it states itself, or why there is none.
 pub fn write_type(alloc: Global, text: &str, answer: &mut String) -> Result<(), CaseError> {
     match detail_in(alloc, text, ' ')? {
         Ok(detail) => {
@@ -127,7 +127,7 @@ pub fn write_type(alloc: Global, text: &str, answer: &mut String) -> Result<(), 
     }
 }
 
-/// One of the types of a message, `VARIANT:NAME:SIZE:ALIGNMENT`.
+/// Returns a type of a message, `VARIANT:NAME:SIZE:ALIGNMENT`.
 fn part_in(alloc: Global, part: Option<&str>) -> Result<TypeDetail, CaseError> {
     match detail_in(alloc, part.unwrap_or(""), ':')? {
         Ok(detail) => Ok(detail),
@@ -135,7 +135,7 @@ fn part_in(alloc: Global, part: Option<&str>) -> Result<TypeDetail, CaseError> {
     }
 }
 
-/// A message with the types of the header, the user header and the payload, with commas between them.
+/// Returns the message that has these types, with commas between them: the header's, the user header's, the payload's.
 fn message_in(alloc: Global, text: &str) -> Result<MessageTypeDetails, CaseError> {
     let mut parts = text.split(',');
     Ok(MessageTypeDetails {
@@ -145,7 +145,7 @@ fn message_in(alloc: Global, text: &str) -> Result<MessageTypeDetails, CaseError
     })
 }
 
-/// Writes whether a message is compatible to another, `MESSAGE | MESSAGE`.
+/// Writes whether the first of `MESSAGE | MESSAGE` is compatible with the second.
 pub fn write_compatible(alloc: Global, text: &str, answer: &mut String) -> Result<(), CaseError> {
     let Some((message, other)) = text.split_once('|') else {
         return Err(CaseError);
@@ -154,7 +154,7 @@ pub fn write_compatible(alloc: Global, text: &str, answer: &mut String) -> Resul
     Ok(write!(answer, "{is_compatible}")?)
 }
 
-/// Writes the hash of the service `PATTERN NAME`, or why there is no such name.
+/// Writes the hash of the service `PATTERN NAME`, or why it can't have that name.
 pub fn write_hash(alloc: Global, service: &str, answer: &mut String) -> Result<(), CaseError> {
     let (_pattern, name) = first_word(service);
     match ServiceName::new(alloc, text_in(name)) {

@@ -1,9 +1,9 @@
-//! Words of a line.
+//! The words of a line.
 
 use crate::case_error::CaseError;
 use std::alloc::Global;
 
-/// The first word of a text and the rest, both without spaces around. The rest is empty where there is no second word.
+/// Returns the first word of a text and the rest, both trimmed. The rest is empty if there is no second word.
 pub fn first_word(text: &str) -> (&str, &str) {
     let text = text.trim();
     match text.split_once(' ') {
@@ -12,7 +12,7 @@ pub fn first_word(text: &str) -> (&str, &str) {
     }
 }
 
-/// The number that a word is.
+/// Returns the number that a word states.
 pub fn number(word: &str) -> Result<u64, CaseError> {
     match word.parse::<u64>() {
         Ok(number) => Ok(number),
@@ -20,7 +20,7 @@ pub fn number(word: &str) -> Result<u64, CaseError> {
     }
 }
 
-/// The numbers of a text. A dash is none of them.
+/// Returns the numbers of a text. A dash is ignored.
 pub fn numbers(alloc: Global, text: &str) -> Result<Vec<u64>, CaseError> {
     let mut numbers = Vec::new(alloc);
     for word in text.split_whitespace() {
@@ -31,7 +31,7 @@ pub fn numbers(alloc: Global, text: &str) -> Result<Vec<u64>, CaseError> {
     Ok(numbers)
 }
 
-/// What a word means, by rows.
+/// Returns what the first row of this name means.
 pub fn named<T: Copy>(rows: &[(&str, T)], word: &str) -> Result<T, CaseError> {
     for (name, meant) in rows {
         if *name == word {
