@@ -1,6 +1,7 @@
 -- What goes wrong at a log, and what is written of it.
 use Rattle.std.specs.Prelude.{◌≡◌, ℕ, Bool, true, false, List, ◌++◌, Option, Some, None, Result, Err}
 use Rattle.std.specs.Prelude.{codes}
+use Rattle.std.specs.Io.KnownBytes.{Appends}
 use Rattle.std.specs.declared.io.ErrorKind.{ErrorKind}
 use Rattle.std.specs.declared.io.ErrorKind.TheVariants as system
 use Rattle.iceoryx2_file_log.specs.declared.error.FileFault.{FileFault}
@@ -15,7 +16,8 @@ use Rattle.iceoryx2_postgres_log.specs.Faults.{fault_text as database_text}
 use Rattle.negotiate_lines.specs.Escapes.{escaped}
 use Rattle.negotiate_serve.specs.declared.ending.ServeError.{ServeError}
 use Rattle.negotiate_serve.specs.declared.ending.ServeError.TheVariants as failure
-use Rattle.negotiate_serve.specs.Outputs.{Writes}
+use Rattle.negotiate_serve.specs.Outputs.{IsFrontOf, Writes}
+use Rattle.negotiate_serve.specs.Reports.{failure_line}
 use Rattle.wulameron_place.specs.declared.trouble.Trouble.{Trouble}
 use Rattle.wulameron_place.specs.declared.trouble.Trouble.TheVariants as trouble
 
@@ -153,7 +155,12 @@ unopened_text other = trouble_text other
 abbrev pub trouble_line : (path text : List ℕ) → List ℕ
 trouble_line path text = codes "wulameron: " ++ escaped path ++ codes ": " ++ text ++ codes "\n"
 
--- The line is written, as far as the writer takes it, or there was no memory for it.
+-- The line that there is no memory is written, as far as the writer takes it.
+abbrev pub WritesNoMemory : (old new : Option (List ℕ)) → Type 0
+WritesNoMemory old new =
+    (front : List ℕ) × IsFrontOf front (failure_line (codes "wulameron") failure.OutOfMemory) × Appends old new front
+
+-- The line is written, as far as the writer takes it. If there was no memory for it, the line of that is written.
 abbrev pub WritesLine : (line : List ℕ) → Result (Unit {0}) ServeError → (old new : Option (List ℕ)) → Type 0
-WritesLine line (Err failure.OutOfMemory) old new = new ≡ old
+WritesLine line (Err failure.OutOfMemory) old new = WritesNoMemory old new
 WritesLine line result old new = Writes line result old new

@@ -4,7 +4,7 @@ ghost use Rattle.std.specs.Prelude.{◌≡◌, List, ℕ, Option, Some, IfOk, co
 ghost use Rattle.wulameron_place.specs.Nodes.{node_line};
 ghost use Rattle.negotiate_serve.specs.Outputs.{Writes};
 ghost use Rattle.negotiate_serve.specs.Reports.{failure_line};
-ghost use Rattle.wulameron_place.specs.Troubles.{WritesLine, last_of, trouble_line, unopened_text};
+ghost use Rattle.wulameron_place.specs.Troubles.{WritesLine, WritesNoMemory, last_of, trouble_line, unopened_text};
 
 use crate::claims::{NodeError, TokenTrouble};
 use crate::halt::Halt;
@@ -53,7 +53,8 @@ impl<'a, E: Write> Reports<'a, E> {
 
     /// Writes the line of what is wrong with the log, or is wanted of it.
     ///
-    /// `ServeError` as `write_out` does, and if there is no memory for the line.
+    /// `ServeError` as `write_out` does. `OutOfMemory` if there is no memory for the line; then it writes the line of
+    /// that, which needs none.
     pub fn tell<D: fmt::Display + Copy>(&mut self, wrong: D) -> Result<(), ServeError>
         ensures { (text : List ℕ) → D.output wrong ≡ Some text
             → WritesLine (trouble_line self.old.path.now text) result
@@ -70,8 +71,18 @@ impl<'a, E: Write> Reports<'a, E> {
     {
         match line_of(self.alloc, path, wrong) {
             Ok(line) => write_out(line.as_bytes(), &mut self.errors),
-            Err(_) => Err(ServeError::OutOfMemory),
+            Err(_) => {
+                self.tell_no_memory();
+                Err(ServeError::OutOfMemory)
+            }
         }
+    }
+
+    /// Writes the line that there is no memory. It leaves out what can't be written.
+    pub fn tell_no_memory(&mut self)
+        ensures { WritesNoMemory (E.contents self.old.errors) (E.contents self.new.errors) }
+    {
+        let _ = self.tell_failure(ServeError::OutOfMemory);
     }
 
     /// Writes the line of why the log isn't opened.

@@ -79,24 +79,20 @@ fn refuse_words<E: Write>(alloc: Global, hold: &Hold<'_>, errors: &mut E) -> Opt
         return Some(no_memory(errors));
     };
     match parse_in(alloc, Form::Escaped, line.as_bytes()) {
-        Ok(Line::NotACommand(wrong)) => {
-            let _ = report_words(alloc, wrong, errors);
-            Some(NOT_A_COMMAND)
-        }
+        Ok(Line::NotACommand(wrong)) => Some(report_words(alloc, wrong, errors)),
         Ok(_) => None,
         Err(_) => Some(no_memory(errors)),
     }
 }
 
-/// Writes what is wrong with the words of a call.
-fn report_words<E: Write>(
-    alloc: Global,
-    wrong: LineError<'_>,
-    errors: &mut E,
-) -> Result<(), ServeError> {
+/// Writes what is wrong with the words of a call, or that there is no memory. Returns the status.
+fn report_words<E: Write>(alloc: Global, wrong: LineError<'_>, errors: &mut E) -> u8 {
     match words_line(alloc, wrong) {
-        Ok(line) => write_out(line.as_bytes(), errors),
-        Err(_) => Err(ServeError::OutOfMemory),
+        Ok(line) => {
+            let _ = write_out(line.as_bytes(), errors);
+            NOT_A_COMMAND
+        }
+        Err(_) => no_memory(errors),
     }
 }
 
