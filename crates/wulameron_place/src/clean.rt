@@ -133,19 +133,30 @@ fn clean_found<F: Files<File = File> + Clock + RandomSource + AllocGlobal, W: Wr
     output: &mut W,
     reports: &mut Reports<'_, E>,
 ) -> u8 {
-    let place = asked.place;
-    let Some(OpenLog { log, counter }) = open(rt, place, reports) else {
+    let Some(log) = open(rt, asked.place, reports) else {
         return FAULT;
     };
-    let dead = PlaceNodes::of(rt, place);
-    let alloc = rt.alloc();
+    let dead = PlaceNodes::of(rt, asked.place);
+    clean_over(log, &dead, (asked.node, nodes), output, reports)
+}
+
+/// Releases what these nodes have over an open log. `named` is the node that the user named, if any.
+fn clean_over<L: Refusing + Drop, D: DeadNodes, W: Write, E: Write>(
+    log: OpenLog<L>,
+    dead: &D,
+    (named, nodes): (Option<u64>, &[u64]),
+    output: &mut W,
+    reports: &mut Reports<'_, E>,
+) -> u8 {
+    let OpenLog { log, counter } = log;
+    let alloc = reports.alloc();
     let mut journal = Journal::starting_at(alloc, CallLog::new(log), Vec::new(alloc), counter);
-    let done = clean_nodes(alloc, &mut journal, &dead, nodes, output);
+    let done = clean_nodes(alloc, &mut journal, dead, nodes, output);
     if let Some(_) = reports.look(&journal) {
         return FAULT;
     }
     match done {
-        Ok(spared) => end_clean(spared, asked.node, reports),
+        Ok(spared) => end_clean(spared, named, reports),
         Err(fault) => reports.fail(fault),
     }
 }
@@ -273,13 +284,23 @@ fn rehearse_found<F: Files<File = File> + Clock + RandomSource + AllocGlobal, W:
     output: &mut W,
     reports: &mut Reports<'_, E>,
 ) -> u8 {
-    let Some(journal) = open_view(rt, asked.place, reports) else {
-        return FAULT;
-    };
+    match open_view(rt, asked.place, reports) {
+        Some(journal) => rehearse_over(journal, nodes, output, reports),
+        None => FAULT,
+    }
+}
+
+/// Writes what would be released of what these nodes have in a journal's world.
+fn rehearse_over<L: Refusing + Drop, W: Write, E: Write>(
+    journal: Journal<L>,
+    nodes: &[u64],
+    output: &mut W,
+    reports: &mut Reports<'_, E>,
+) -> u8 {
     let Some(mut world) = caught_up(journal, reports) else {
         return FAULT;
     };
-    match rehearse_nodes(rt.alloc(), &mut world, nodes) {
+    match rehearse_nodes(reports.alloc(), &mut world, nodes) {
         Ok(text) => match write_out(text.as_bytes(), output) {
             Ok(()) => DONE,
             Err(fault) => reports.fail(fault),

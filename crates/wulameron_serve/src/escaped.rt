@@ -36,7 +36,7 @@ use wulameron_place::claims::claim_node;
 use wulameron_place::dead::PlaceNodes;
 use wulameron_place::halt::Halt;
 use wulameron_place::node_log::NodeLog;
-use wulameron_place::opening::opened;
+use wulameron_place::opening::{OpenLog, opened};
 use wulameron_place::reports::Reports;
 use wulameron_place::trouble::{Refusing, Trouble, Troubled};
 
@@ -108,7 +108,7 @@ pub fn refuse_folder<X: fmt::Display + Copy, W: Write>(
     end_with(told, &text, output)
 }
 
-/// Does the same for a node that is claimed.
+/// Answers the lines of an input for a claimed node, and returns the status.
 fn run_as<F: Files<File = File> + Clock + RandomSource + AllocGlobal, R: Read + Drop, W: Write>(
     rt: &F,
     node: u64,
@@ -117,16 +117,26 @@ fn run_as<F: Files<File = File> + Clock + RandomSource + AllocGlobal, R: Read + 
     output: &mut W,
 ) -> u8 {
     let place = run.place;
-    match opened(rt, place) {
-        Ok(log) => {
-            let dead = PlaceNodes {
-                rt,
-                place,
-                cleans: run.cleans,
-            };
-            start_and_greet(rt.alloc(), log.for_node(node), dead, input, output)
-        }
-        Err(trouble) => refuse_log(rt.alloc(), trouble, output),
+    let dead = PlaceNodes {
+        rt,
+        place,
+        cleans: run.cleans,
+    };
+    run_over(rt.alloc(), node, opened(rt, place), dead, input, output)
+}
+
+/// Answers the lines of an input over a log that was opened, or writes why it wasn't. Returns the status.
+fn run_over<L: Refusing + Renewing + Drop, D: SharedNodes + Drop, R: Read + Drop, W: Write>(
+    alloc: Global,
+    node: u64,
+    opened: Result<OpenLog<L>, Trouble>,
+    dead: D,
+    input: R,
+    output: &mut W,
+) -> u8 {
+    match opened {
+        Ok(log) => start_and_greet(alloc, log.for_node(node), dead, input, output),
+        Err(trouble) => refuse_log(alloc, trouble, output),
     }
 }
 
@@ -142,7 +152,7 @@ fn refuse_start<W: Write>(alloc: Global, halt: Halt, output: &mut W) -> u8
     }
 }
 
-/// Does the same over a log that is open. It tells everything on the output.
+/// Starts a node over its log, greets, and answers the lines of an input. It tells everything on the output.
 fn start_and_greet<
     L: Refusing + Renewing + SpansCalls + Drop,
     D: SharedNodes + Drop,

@@ -34,6 +34,7 @@ use std::rt::Files;
 use std::time::Clock;
 use wulameron_arguments::asked::Hold;
 use wulameron_place::dead::{DeadNodes, PlaceNodes};
+use wulameron_place::node_log::NodeLog;
 use wulameron_place::opening::{claim, open, states};
 use wulameron_place::reports::{Reports, STAYS};
 use wulameron_place::trouble::{Refusing, Trouble, Troubled};
@@ -200,9 +201,8 @@ fn hold_as<
     output: &mut W,
     reports: &mut Reports<'_, E>,
 ) -> u8 {
-    let alloc = rt.alloc();
     let place = hold.place;
-    let Some(call) = held_call(alloc, node, hold) else {
+    let Some(call) = held_call(rt.alloc(), node, hold) else {
         return reports.fail(ServeError::OutOfMemory);
     };
     let Some(log) = open(rt, place, reports) else {
@@ -211,27 +211,44 @@ fn hold_as<
     let Some(states) = states(rt, place, reports) else {
         return FAULT;
     };
-    match log.for_node(node).start(alloc, reports) {
-        Err(halt) => reports.halt(halt),
-        Ok(journal) => {
-            let wanted = NodeCall {
-                node,
-                hold,
-                call,
-                states,
-            };
-            let dead = PlaceNodes::of(rt, place);
-            hold_over(journal, wanted, dead, input, output, reports)
-        }
-    }
+    let wanted = NodeCall {
+        node,
+        hold,
+        call,
+        states,
+    };
+    let dead = PlaceNodes::of(rt, place);
+    start_and_hold(log.for_node(node), wanted, dead, input, output, reports)
 }
 
 /// A call for a node with its words, and the states of all nodes before it.
+#[derive(Drop)]
 struct NodeCall<'a> {
     node: u64,
     hold: &'a Hold<'a>,
     call: Call,
     states: Vec<NodeStatus>,
+}
+
+/// Starts a node over its log, makes the call, and holds the factory until the input ends.
+fn start_and_hold<
+    L: Refusing + Renewing + SpansCalls + Drop,
+    D: DeadNodes + Drop,
+    R: Read + Drop,
+    W: Write,
+    E: Write,
+>(
+    log: NodeLog<L>,
+    wanted: NodeCall<'_>,
+    dead: D,
+    input: R,
+    output: &mut W,
+    reports: &mut Reports<'_, E>,
+) -> u8 {
+    match log.start(reports.alloc(), reports) {
+        Ok(journal) => hold_over(journal, wanted, dead, input, output, reports),
+        Err(halt) => reports.halt(halt),
+    }
 }
 
 /// Makes the call over the journal of its node, and holds the factory until the input ends.

@@ -57,19 +57,31 @@ pub fn run<
                 place,
                 cleans: run.cleans,
             };
-            let ended = start_and_answer(
-                log.for_node(node),
-                dead,
-                run,
-                input,
-                output,
-                &mut reports,
-            );
-            report_end(told_end(rt.alloc(), node, ended), &mut reports)
+            answer_over(log.for_node(node), dead, run, input, output, &mut reports)
         }
     };
     drop(claim);
     status
+}
+
+/// Answers the lines of an input for a node over its log, and returns the status. It tells what goes wrong.
+fn answer_over<
+    L: Refusing + Renewing + SpansCalls + Drop,
+    D: DeadNodes + Drop,
+    R: Read + Drop,
+    W: Write,
+    E: Write,
+>(
+    log: NodeLog<L>,
+    dead: D,
+    run: &Run<'_>,
+    input: R,
+    output: &mut W,
+    reports: &mut Reports<'_, E>,
+) -> u8 {
+    let node = log.node;
+    let ended = start_and_answer(log, dead, run, input, output, reports);
+    report_end(told_end(reports.alloc(), node, ended), reports)
 }
 
 /// Tells which node was claimed.

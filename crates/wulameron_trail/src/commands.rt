@@ -25,12 +25,101 @@ use std::random::RandomSource;
 use std::rt::Files;
 use std::time::Clock;
 use wulameron_arguments::asked::{Form, List, LogLook, Look, Place};
-use wulameron_place::opening::opened_view;
+use wulameron_place::opening::{OpenLog, opened_view};
 use wulameron_place::reports::Reports;
 use wulameron_place::trouble::{Refusing, Trouble};
 
 /// The status if a log isn't sound.
 pub const NOT_SOUND: u8 = 1;
+
+/// What is printed of a log's entries.
+#[derive(Clone, Copy)]
+enum Printed<'a> {
+    Entries(&'a LogLook<'a>),
+    Changes(&'a Look<'a>),
+    Lists(&'a List<'a>),
+}
+
+impl<'a> Printed<'a> {
+    /// Returns the place of the log.
+    fn place(&self) -> Place<'a> {
+        match self {
+            Printed::Entries(asked) => asked.place,
+            Printed::Changes(asked) => asked.place,
+            Printed::Lists(asked) => asked.place,
+        }
+    }
+}
+
+/// Opens a log, prints its entries as they are asked for, and returns the status.
+fn print_at<
+    F: Files<File = File> + Clock + RandomSource + AllocGlobal,
+    I: Pauses,
+    W: Write,
+    E: Write,
+>(rt: &F, printed: Printed<'_>, pauses: &mut I, output: &mut W, errors: &mut E) -> u8 {
+    let place = printed.place();
+    let mut reports = Reports::new(rt.alloc(), place.at, errors);
+    if place.database().is_some() {
+        return match opened_view(rt, place) {
+            Ok(open) => print_rows(rt, printed, open, pauses, output, &mut reports),
+            Err(trouble) => report_refused(trouble, &mut reports),
+        };
+    }
+    match LogFile::open(rt, place.at) {
+        Ok(log) => print_source(rt, (printed, "byte"), log, pauses, output, &mut reports),
+        Err(fault) => report_refused(Trouble::Refused(fault), &mut reports),
+    }
+}
+
+/// Prints the rows of a log in a database as they are asked for, and returns the status.
+fn print_rows<
+    F: Files<File = File> + AllocGlobal,
+    L: Refusing + Drop,
+    I: Pauses,
+    W: Write,
+    E: Write,
+>(
+    rt: &F,
+    printed: Printed<'_>,
+    open: OpenLog<L>,
+    pauses: &mut I,
+    output: &mut W,
+    reports: &mut Reports<'_, E>,
+) -> u8 {
+    print_source(
+        rt,
+        (printed, "row"),
+        LogRows::new(open),
+        pauses,
+        output,
+        reports,
+    )
+}
+
+/// Prints the entries of an open log as they are asked for, and returns the status. `unit` is what its places count.
+fn print_source<
+    F: Files<File = File> + AllocGlobal,
+    S: Source + Drop,
+    I: Pauses,
+    W: Write,
+    E: Write,
+>(
+    rt: &F,
+    (printed, unit): (Printed<'_>, &'static str),
+    source: S,
+    pauses: &mut I,
+    output: &mut W,
+    reports: &mut Reports<'_, E>,
+) -> u8 {
+    let mut source = source;
+    let ended = match printed {
+        Printed::Entries(asked) => print_log(rt.alloc(), asked, &mut source, pauses, output),
+        Printed::Changes(asked) => print_changes(rt.alloc(), asked, &mut source, pauses, output),
+        Printed::Lists(asked) => print_lists(rt, asked, &mut source, pauses, output),
+    };
+    report_end(unit, source.at(), ended, reports)
+}
 
 /// Prints the entries of a log, and returns the status: 0, or 3 if the log can't be read to its end, the output fails
 /// or there is no memory, of which the writer of errors has a line. If it is to follow the log, it goes on as the log
@@ -41,28 +130,10 @@ pub fn log<
     W: Write,
     E: Write,
 >(rt: &F, asked: &LogLook<'_>, pauses: &mut I, output: &mut W, errors: &mut E) -> u8 {
-    let alloc = rt.alloc();
-    let place = asked.place;
-    let mut reports = Reports::new(alloc, place.at, errors);
-    if place.database().is_some() {
-        return match opened_view(rt, place) {
-            Ok(open) => {
-                let mut rows = LogRows::new(open);
-                let ended = print_log(alloc, asked, &mut rows, pauses, output);
-                report_end("row", rows.at(), ended, &mut reports)
-            }
-            Err(trouble) => report_refused(trouble, &mut reports),
-        };
-    }
-    match LogFile::open(rt, place.at) {
-        Ok(mut log) => {
-            let ended = print_log(alloc, asked, &mut log, pauses, output);
-            report_end("byte", log.at(), ended, &mut reports)
-        }
-        Err(fault) => report_refused(Trouble::Refused(fault), &mut reports),
-    }
+    print_at(rt, Printed::Entries(asked), pauses, output, errors)
 }
 
+/// Prints the entries of a log as they are asked for.
 fn print_log<S: Source, I: Pauses, W: Write>(
     alloc: Global,
     asked: &LogLook<'_>,
@@ -104,28 +175,10 @@ pub fn watch<
     W: Write,
     E: Write,
 >(rt: &F, asked: &Look<'_>, pauses: &mut I, output: &mut W, errors: &mut E) -> u8 {
-    let alloc = rt.alloc();
-    let place = asked.place;
-    let mut reports = Reports::new(alloc, place.at, errors);
-    if place.database().is_some() {
-        return match opened_view(rt, place) {
-            Ok(open) => {
-                let mut rows = LogRows::new(open);
-                let ended = print_changes(alloc, asked, &mut rows, pauses, output);
-                report_end("row", rows.at(), ended, &mut reports)
-            }
-            Err(trouble) => report_refused(trouble, &mut reports),
-        };
-    }
-    match LogFile::open(rt, place.at) {
-        Ok(mut log) => {
-            let ended = print_changes(alloc, asked, &mut log, pauses, output);
-            report_end("byte", log.at(), ended, &mut reports)
-        }
-        Err(fault) => report_refused(Trouble::Refused(fault), &mut reports),
-    }
+    print_at(rt, Printed::Changes(asked), pauses, output, errors)
 }
 
+/// Prints what each new entry changes, until a pause ends it.
 fn print_changes<S: Source, I: Pauses, W: Write>(
     alloc: Global,
     asked: &Look<'_>,
@@ -156,27 +209,10 @@ pub fn watch_list<
     W: Write,
     E: Write,
 >(rt: &F, asked: &List<'_>, pauses: &mut I, output: &mut W, errors: &mut E) -> u8 {
-    let place = asked.place;
-    let mut reports = Reports::new(rt.alloc(), place.at, errors);
-    if place.database().is_some() {
-        return match opened_view(rt, place) {
-            Ok(open) => {
-                let mut rows = LogRows::new(open);
-                let ended = print_lists(rt, asked, &mut rows, pauses, output);
-                report_end("row", rows.at(), ended, &mut reports)
-            }
-            Err(trouble) => report_refused(trouble, &mut reports),
-        };
-    }
-    match LogFile::open(rt, place.at) {
-        Ok(mut log) => {
-            let ended = print_lists(rt, asked, &mut log, pauses, output);
-            report_end("byte", log.at(), ended, &mut reports)
-        }
-        Err(fault) => report_refused(Trouble::Refused(fault), &mut reports),
-    }
+    print_at(rt, Printed::Lists(asked), pauses, output, errors)
 }
 
+/// Prints the services, and again with each change, until a pause ends it.
 fn print_lists<F: Files<File = File> + AllocGlobal, S: Source, I: Pauses, W: Write>(
     rt: &F,
     asked: &List<'_>,
@@ -203,7 +239,7 @@ pub fn check<F: Files<File = File> + Clock + RandomSource + AllocGlobal, W: Writ
     let mut reports = Reports::new(alloc, place.at, errors);
     if place.database().is_some() {
         return match opened_view(rt, *place) {
-            Ok(open) => check_rows(alloc, LogRows::new(open), output, &mut reports),
+            Ok(open) => check_rows(open, output, &mut reports),
             Err(trouble) => report_refused(trouble, &mut reports),
         };
     }
@@ -215,12 +251,12 @@ pub fn check<F: Files<File = File> + Clock + RandomSource + AllocGlobal, W: Writ
 
 /// Prints whether a log in a database is sound.
 fn check_rows<L: Refusing + Drop, W: Write, E: Write>(
-    alloc: Global,
-    rows: LogRows<L>,
+    open: OpenLog<L>,
     output: &mut W,
     reports: &mut Reports<'_, E>,
 ) -> u8 {
-    let mut rows = rows;
+    let alloc = reports.alloc();
+    let mut rows = LogRows::new(open);
     match rows.bytes(alloc) {
         Ok(bytes) => end_check(print_verdict(alloc, &bytes, output), reports),
         Err(Stop::Refused(Trouble::Database(PostgresFault::Damaged { number: _ }))) => {

@@ -15,7 +15,7 @@ use std::io::Write;
 use std::random::RandomSource;
 use std::rt::Files;
 use std::time::Clock;
-use wulameron_arguments::asked::{self, Listed, Look, Show, Shown, Wanted};
+use wulameron_arguments::asked::{self, Listed, Place, Show, Shown, Wanted};
 use wulameron_place::opening::{open_view, states};
 use wulameron_place::reports::Reports;
 use wulameron_place::trouble::{Refusing, Trouble, Troubled};
@@ -23,6 +23,50 @@ use wulameron_place::trouble::{Refusing, Trouble, Troubled};
 const NO_SERVICE: &str = "has no such service; see `wulameron list`";
 
 const SEVERAL_SERVICES: &str = "has several services of this name; name one by --pattern";
+
+/// What is looked up at a log.
+#[derive(Clone, Copy)]
+enum Lookup<'a> {
+    List(Listed<'a>),
+    Show(Wanted<'a>, Shown),
+    Nodes(Shown),
+}
+
+/// Opens the log of a place, and prints what is looked up. Returns the status with which the program ends.
+fn look_at<F: Files<File = File> + Clock + RandomSource + AllocGlobal, W: Write, E: Write>(
+    rt: &F,
+    place: Place<'_>,
+    look: Lookup<'_>,
+    output: &mut W,
+    errors: &mut E,
+) -> u8 {
+    let mut reports = Reports::new(rt.alloc(), place.at, errors);
+    match open_view(rt, place, &mut reports) {
+        Some(journal) => look_over(rt, (place, look), journal, output, &mut reports),
+        None => FAULT,
+    }
+}
+
+/// Prints what is looked up at the log of a journal, with the states of the place's nodes. Returns the status.
+fn look_over<F: Files<File = File> + AllocGlobal, L: Refusing + Drop, W: Write, E: Write>(
+    rt: &F,
+    (place, look): (Place<'_>, Lookup<'_>),
+    journal: Journal<L>,
+    output: &mut W,
+    reports: &mut Reports<'_, E>,
+) -> u8 {
+    let Some(found) = states(rt, place, reports) else {
+        return FAULT;
+    };
+    let mut journal = journal;
+    match look {
+        Lookup::List(listed) => list_over(&mut journal, &found, listed, output, reports),
+        Lookup::Show(wanted, shown) => {
+            show_over(&mut journal, &found, wanted, shown, output, reports)
+        }
+        Lookup::Nodes(shown) => nodes_over(&mut journal, &found, shown, output, reports),
+    }
+}
 
 /// Prints which services there are over the log of a place, in the form that is asked for. Returns the status with
 /// which the program ends: 0, or 3 after a failure, of which the writer of errors has a line.
@@ -32,14 +76,7 @@ pub fn list<F: Files<File = File> + Clock + RandomSource + AllocGlobal, W: Write
     output: &mut W,
     errors: &mut E,
 ) -> u8 {
-    let mut reports = Reports::new(rt.alloc(), list.place.at, errors);
-    let Some(mut journal) = open_view(rt, list.place, &mut reports) else {
-        return FAULT;
-    };
-    let Some(found) = states(rt, list.place, &mut reports) else {
-        return FAULT;
-    };
-    list_over(&mut journal, &found, list.listed, output, &mut reports)
+    look_at(rt, list.place, Lookup::List(list.listed), output, errors)
 }
 
 /// Prints which services there are over a log, after this journal has taken it over. These are the known states of
@@ -67,22 +104,8 @@ pub fn show<F: Files<File = File> + Clock + RandomSource + AllocGlobal, W: Write
     output: &mut W,
     errors: &mut E,
 ) -> u8 {
-    let look = show.look;
-    let mut reports = Reports::new(rt.alloc(), look.place.at, errors);
-    let Some(mut journal) = open_view(rt, look.place, &mut reports) else {
-        return FAULT;
-    };
-    let Some(found) = states(rt, look.place, &mut reports) else {
-        return FAULT;
-    };
-    show_over(
-        &mut journal,
-        &found,
-        show.wanted,
-        look.shown,
-        output,
-        &mut reports,
-    )
+    let asked::Look { place, shown } = show.look;
+    look_at(rt, place, Lookup::Show(show.wanted, shown), output, errors)
 }
 
 /// Prints what was agreed for the wanted service over a log, after this journal has taken it over, and which nodes have
@@ -148,18 +171,11 @@ pub fn report_look<E: Write>(
 /// line.
 pub fn nodes<F: Files<File = File> + Clock + RandomSource + AllocGlobal, W: Write, E: Write>(
     rt: &F,
-    look: &Look<'_>,
+    look: &asked::Look<'_>,
     output: &mut W,
     errors: &mut E,
 ) -> u8 {
-    let mut reports = Reports::new(rt.alloc(), look.place.at, errors);
-    let Some(mut journal) = open_view(rt, look.place, &mut reports) else {
-        return FAULT;
-    };
-    let Some(found) = states(rt, look.place, &mut reports) else {
-        return FAULT;
-    };
-    nodes_over(&mut journal, &found, look.shown, output, &mut reports)
+    look_at(rt, look.place, Lookup::Nodes(look.shown), output, errors)
 }
 
 /// Prints each of these nodes with its standing over a log, after this journal has taken it over. Returns the status:
