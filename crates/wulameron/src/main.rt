@@ -29,7 +29,7 @@ use wulameron_view::viewing::{list, nodes, show};
 
 const NO_LAUNCHER: &str = "is a log in a database; run wulameron-postgres with the same words";
 
-/// Prints what the words asked for, or what is wrong with them, and gives the status.
+/// Prints the help that the words ask for, or what is wrong with them, and returns the status.
 fn print(rt: &HostRuntime, error: &Error) -> u8 {
     let _ = error.print(rt);
     match error.kind() {
@@ -38,13 +38,13 @@ fn print(rt: &HostRuntime, error: &Error) -> u8 {
     }
 }
 
-/// The words by which the program was started.
+/// Returns the words by which the program was started.
 fn words(rt: &HostRuntime) -> io::Result<Vec<String>> {
     Ok(env::args(rt)?.collect(rt.alloc())?)
 }
 
-/// Makes the folder of the log where no word names the log and the command makes one. False where it can't be used, which
-/// is told.
+/// Makes the folder of the log if no word names the log and the command makes one. Returns false if the folder can't be
+/// used, which is told.
 fn is_prepared(rt: &HostRuntime, default: Option<&DefaultLog>, asked: &Asked<'_>) -> bool {
     let Some(log) = default else {
         return true;
@@ -64,7 +64,7 @@ fn is_prepared(rt: &HostRuntime, default: Option<&DefaultLog>, asked: &Asked<'_>
     }
 }
 
-/// Tells why the folder of the log can't be used, on the standard output where lines are escaped.
+/// Tells why the folder of the log can't be used, on the standard output if lines are escaped.
 fn tell_folder(rt: &HostRuntime, folder: &str, error: FolderError, is_escaped: bool) {
     if is_escaped {
         let _ = refuse_folder(rt.alloc(), folder, error, &mut io::writer(rt));
@@ -73,7 +73,7 @@ fn tell_folder(rt: &HostRuntime, folder: &str, error: FolderError, is_escaped: b
     let _ = Reports::new(rt.alloc(), folder, rt.stderr()).tell(error);
 }
 
-/// Tells that the pipes to the database are gone, on the standard output where lines are escaped, and gives the status.
+/// Tells that the pipes to the database are gone, on the standard output if lines are escaped. Returns the status.
 fn tell_ended(rt: &HostRuntime, at: &str, is_escaped: bool) -> u8 {
     let trouble = Trouble::Database(PostgresFault::SessionEnded);
     if is_escaped {
@@ -83,9 +83,9 @@ fn tell_ended(rt: &HostRuntime, at: &str, is_escaped: bool) -> u8 {
     FAULT
 }
 
-/// The pipes to the database that has the log. `None` where the log is in a file.
+/// Returns the pipes to the database that has the log, or `None` if the log is in a file.
 ///
-/// The status with which the program ends where there are none, which is told.
+/// The error is the status with which the program ends if there are no pipes, which is told.
 fn pipes_to(rt: &HostRuntime, place: Place<'_>, is_escaped: bool) -> Result<Option<Pipes>, u8> {
     if place.database_log().is_none() {
         return Ok(None);
@@ -107,14 +107,14 @@ fn pipes_to(rt: &HostRuntime, place: Place<'_>, is_escaped: bool) -> Result<Opti
     }
 }
 
-/// Carries out what is asked for over the pipes to a database, if there are any, and gives the status.
+/// Carries out the command over the pipes to a database, if there are any, and returns the status.
 fn answer_over<'a>(rt: &HostRuntime, asked: Asked<'a>, pipes: Option<&'a Pipes>) -> u8 {
     let mut asked = asked;
     asked.place().pipes = pipes;
     answer(rt, asked)
 }
 
-/// Answers lines, and gives the status.
+/// Answers lines, and returns the status.
 fn answer_lines(rt: &HostRuntime, asked: &Run<'_>) -> u8 {
     let mut output = io::writer(rt);
     if asked.is_escaped {
@@ -123,7 +123,7 @@ fn answer_lines(rt: &HostRuntime, asked: &Run<'_>) -> u8 {
     run(rt, asked, rt.reader(), &mut output, &mut rt.stderr())
 }
 
-/// Lists services, once or anew with each change, and gives the status.
+/// Lists services, once or again with each change, and returns the status.
 fn list_services<W: Write>(rt: &HostRuntime, asked: &List<'_>, output: &mut W) -> u8 {
     if asked.watches {
         let mut pauses = Sleeper::new(rt);
@@ -132,7 +132,7 @@ fn list_services<W: Write>(rt: &HostRuntime, asked: &List<'_>, output: &mut W) -
     list(&rt, asked, output, &mut rt.stderr())
 }
 
-/// Carries out what is asked for, and gives the status.
+/// Carries out the command, and returns the status.
 fn answer(rt: &HostRuntime, asked: Asked<'_>) -> u8 {
     let mut output = io::writer(rt);
     match asked {
@@ -154,7 +154,7 @@ fn answer(rt: &HostRuntime, asked: Asked<'_>) -> u8 {
     }
 }
 
-/// Carries out what the words ask for, and gives the status.
+/// Carries out the command that the words name, and returns the status.
 fn carry_out(
     rt: &HostRuntime,
     default: Option<&DefaultLog>,
@@ -192,8 +192,8 @@ fn carry_out(
 
 /// Carries out the command that the arguments name.
 ///
-/// Ends with status 0; with 1 where something is wrong, isn't there or is refused; with 2 where the arguments are wrong
-/// or a line ended a strict run; and with 3 where there is a failure, of which the standard error has a line.
+/// Ends with status 0; with 1 if something is wrong, isn't there or is refused; with 2 if the arguments are wrong or a
+/// line ended a strict run; or with 3 after a failure, of which the standard error has a line.
 fn main(rt: HostRuntime) -> ExitCode {
     let Ok(default) = default_log(&rt) else {
         return ExitCode::from(fault(&rt, ServeError::OutOfMemory));
@@ -207,7 +207,7 @@ fn main(rt: HostRuntime) -> ExitCode {
     }
 }
 
-/// Writes the line of a failure on the standard error, and gives its status.
+/// Writes the line of a failure on the standard error, and returns its status.
 fn fault(rt: &HostRuntime, fault: ServeError) -> u8 {
     let _ = report_failure("wulameron", fault, &mut rt.stderr());
     FAULT
