@@ -9,25 +9,26 @@ use iceoryx2_session::session::Session;
 use iceoryx2_table::table::Table;
 use negotiate_serve::answer::{Buffers, answer_next};
 use negotiate_serve::ending::{Ending, ServeError, WrongLines, status};
+use negotiate_serve::lines::Lines;
 use negotiate_serve::report::report;
 use negotiate_serve::serve::serve as negotiate;
 use std::alloc::Global;
-use std::io::BufReader;
+use std::io::{BufRead, BufReader, Write};
 
 /// More lines than any input has.
 const MOST_LINES: u64 = 1_000_000;
 
 /// Answers each line of an input, also a line that is no command.
-fn answer_all(
+fn answer_all<A, L: Lines<A>, R: BufRead, W: Write>(
     alloc: Global,
-    wrong_lines: WrongLines,
-    reader: &mut BufReader<&[u8]>,
-    page: &mut Vec<u8>,
-    session: &mut Session<Table>,
+    lines: &L,
+    reader: &mut R,
+    page: &mut W,
+    answerer: &mut A,
 ) -> Result<Ending, ServeError> {
     let mut buffers = Buffers::new(alloc);
     for number in 1..MOST_LINES {
-        let ended = answer_next(number, &wrong_lines, reader, page, session, &mut buffers)?;
+        let ended = answer_next(number, lines, reader, page, answerer, &mut buffers)?;
         if let Some(ending) = ended {
             return Ok(ending);
         }
@@ -46,7 +47,7 @@ fn reply(
         return Err(ServeError::OutOfMemory);
     };
     let mut session = Session::new(Config::default(), Table::new(alloc));
-    let ended = answer_all(alloc, wrong_lines, &mut reader, page, &mut session);
+    let ended = answer_all(alloc, &wrong_lines, &mut reader, page, &mut session);
     let _table = session.finish();
     ended
 }
