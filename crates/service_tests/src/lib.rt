@@ -1,4 +1,4 @@
-//! Tests of calls, tables and journals that no case can state, with values from outside the program.
+//! Tests of services and of programs that no case can state, with values from outside the program.
 //!
 //! Each type's constants (`types`), builders with types that are compiled (`typed`), configurations of nodes, and copies
 //! of builders (`factories`). A session answers commands one by one as in one go, over a table, a traced one and any
@@ -7,6 +7,8 @@
 //!
 //! Journals (`journals`): what a refused call left of an own node is given back, also after an append in doubt, and a
 //! course leads from a world to a later one after histories that are drawn by chance.
+//!
+//! Programs print what their lines ask for, though a reader or a writer fails or is interrupted (`programs`).
 //!
 //! `tools/check-drawn` compares storages, and processes at one log, in schedules that are drawn by chance.
 #![tactic(auto)]
@@ -19,6 +21,8 @@ mod factories;
 mod journals;
 #[cfg(test)]
 mod paths;
+#[cfg(test)]
+mod programs;
 #[cfg(test)]
 mod sessions;
 #[cfg(test)]

@@ -1,11 +1,10 @@
-//! A reader and a writer that tests hand to the program, and what it answers then.
+//! A reader and a writer that tests hand to a program, and the text that it wrote.
 
 use std::alloc::Global;
-use std::fmt::Debug;
 use std::io::{self, ErrorKind, Read, Write};
 use std::process::Abort;
 
-/// A reader that gives bytes piece by piece, and then ends, or fails where it has a fault.
+/// A reader that gives bytes piece by piece, and then ends, or fails if it has a fault.
 #[derive(Drop)]
 pub struct Pieces<'a> {
     pub bytes: &'a [u8],
@@ -29,8 +28,8 @@ impl Read for Pieces<'_> {
     }
 }
 
-/// A writer that keeps its bytes. It fails once it has taken as many bytes as it has room for, and
-/// it fails to flush once it was flushed as often as it may be.
+/// A writer that keeps its bytes. It fails when it has taken as many bytes as it has room for, and fails to flush when
+/// it was flushed as often as it may be.
 #[derive(Drop)]
 pub struct Page {
     pub text: Vec<u8>,
@@ -39,7 +38,7 @@ pub struct Page {
 }
 
 impl Page {
-    /// A page that never fails.
+    /// Returns a page that never fails.
     pub fn new(alloc: Global) -> Page {
         Page {
             text: Vec::new(alloc),
@@ -72,16 +71,10 @@ impl Write for Page {
     }
 }
 
-/// Printed bytes as a text.
+/// Returns printed bytes as a text.
 pub fn text_of<'a>(rt: &impl Abort, bytes: &'a [u8]) -> &'a str {
     match std::str::from_utf8(bytes) {
         Ok(text) => text,
         Err(_) => panic!(rt; "no text"),
     }
-}
-
-/// Ends a test that finds another value than it wants. Only here is a value compared and printed, since
-/// a function that does so takes long to prove.
-pub fn assert_same<T: Debug + PartialEq + Drop>(rt: &impl Abort, found: T, wanted: T) {
-    assert_eq!(rt; found, wanted);
 }

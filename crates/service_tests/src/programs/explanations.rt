@@ -1,6 +1,7 @@
 //! What `explain` prints of a diagram where its writer fails.
 
-use crate::support::{Page, Pieces, assert_same, text_of};
+use crate::programs::streams::{Page, Pieces, text_of};
+use crate::support::assert_same;
 use explain_serve::format::Format;
 use explain_serve::serve::serve;
 use negotiate_serve::ending::status;

@@ -1,6 +1,7 @@
 //! What is written to the standard error where a program ends.
 
-use crate::support::{Page, assert_same, text_of};
+use crate::programs::streams::{Page, text_of};
+use crate::support::assert_same;
 use negotiate_serve::ending::{Ending, ServeError};
 use negotiate_serve::report::report;
 use std::alloc::Global;

@@ -1,6 +1,7 @@
 //! Readers and writers that are interrupted and give or take a byte at a time, and an input of many lines.
 
-use crate::support::{Page, assert_same, text_of};
+use crate::programs::streams::{Page, text_of};
+use crate::support::assert_same;
 use explain_serve::format::Format;
 use negotiate_serve::ending::{Ending, ServeError, status};
 use negotiate_serve::serve::serve;

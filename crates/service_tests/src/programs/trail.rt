@@ -1,6 +1,7 @@
 //! Following a log whose end is damaged at one look, and whole at the next.
 
-use crate::support::{assert_same, text_of};
+use crate::programs::streams::text_of;
+use crate::support::assert_same;
 use iceoryx2_file_log::options::FileLogOptions;
 use std::random::RandomSource;
 use std::{env, fs};

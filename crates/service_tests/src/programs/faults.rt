@@ -1,6 +1,7 @@
 //! Readers and writers that fail, and memory that runs out.
 
-use crate::support::{Page, Pieces, assert_same, text_of};
+use crate::programs::streams::{Page, Pieces, text_of};
+use crate::support::assert_same;
 use negotiate_serve::ending::{ServeError, status};
 use negotiate_serve::serve::{serve, write_failure};
 use std::alloc::Global;
