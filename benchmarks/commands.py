@@ -1,12 +1,13 @@
 #!/usr/bin/env python3
 """How long each command of `wulameron` takes beside so many services.
 
-    benchmarks/commands.py WULAMERON [NUMBER ..]
+    benchmarks/commands.py [--program FILE] [NUMBER ..]
 
-WULAMERON is the built program. It is asked of a log in which so many services stand (100, 1,000, 10,000 and 100,000 where
+The program is by default the one that `rt ci` built. It is asked of a log in which so many services stand (100, 1,000, 10,000 and 100,000 where
 no number is given), 64 of each node, which have no process. Prints a table of milliseconds by the clock, the least of three
 runs. A command that isn't done after a minute isn't asked again, and has no figure.
 """
+import argparse
 import os
 import pathlib
 import shutil
@@ -19,6 +20,7 @@ sys.dont_write_bytecode = True
 
 from shared_log import RUNS, standing, table  # noqa: E402
 
+PROGRAM = pathlib.Path(__file__).resolve().parent.parent / "crates/wulameron/out/wulameron"
 LIMIT = 60
 NUMBERS = [100, 1000, 10000, 100000]
 # Each with what is asked, and its input.
@@ -59,8 +61,13 @@ def measured(program, folder, words, text, number):
 
 
 def main():
-    program = str(pathlib.Path(sys.argv[1]).resolve())
-    numbers = [int(word) for word in sys.argv[2:]] or NUMBERS
+    parser = argparse.ArgumentParser(description=__doc__.partition("\n")[0])
+    parser.add_argument("--program", type=pathlib.Path, default=PROGRAM, metavar="FILE")
+    parser.add_argument("number", nargs="*", type=int, default=NUMBERS)
+    asked = parser.parse_args()
+    if not asked.program.is_file():
+        sys.exit(f"benchmarks/commands.py: {asked.program} isn't there: build it by tools/build-unproved, and name it by --program")
+    program, numbers = str(asked.program.resolve()), asked.number
     folder = pathlib.Path(tempfile.mkdtemp(dir="/dev/shm"))
     print(f"load: {os.getloadavg()}, of {os.cpu_count()} processors\n")
     try:

@@ -49,7 +49,7 @@ class Installed:
         page = (TOP / PAGE).read_text(encoding="utf-8")
         self.programs = {file: (text, printed) for file, text, _, printed in programs_of(page)}
         self.page = re.search(r"^## Install\n(.*?)^## ", page, re.M | re.S)[1]
-        source = (TOP / "crates/wulameron_arguments/src/commands.rt").read_text(encoding="utf-8")
+        source = (TOP / "crates/wulameron/src/main.rt").read_text(encoding="utf-8")
         self.version = re.search(r'const VERSION: &str = "(.*)";', source)[1]
         self.soname = f"libwulameron.so.{self.version.partition('.')[0]}"
         self.file = self.lib / f"libwulameron.so.{self.version}"

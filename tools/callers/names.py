@@ -54,7 +54,7 @@ def differences(top):
         found = re.search(rf"^    {enum} \d+: ([^;]*);", own, re.M)
         if not found or found.group(1).split() != names.split():
             told.append(f"bindings/rust has other errors of {enum} than iceoryx2_errors")
-    printed = re.search(r'const VERSION: &str = "(.*)";', text("crates/wulameron_arguments/src/commands.rt"))[1]
+    printed = re.search(r'const VERSION: &str = "(.*)";', text("crates/wulameron/src/main.rt"))[1]
     version = re.search(r'^version = "(.*)"$', text("bindings/rust/Cargo.toml"), re.M)[1]
     if version != printed:
         told.append(f"bindings/rust/Cargo.toml has version {version}, and wulameron prints {printed}")

@@ -21,7 +21,7 @@ BLOCK = re.compile(r"^```console\n(.*?)^```$", re.MULTILINE | re.DOTALL)
 PROMPT = re.compile(r"(server|one|two|each)\$ (.*)")
 HOSTS = {"server": ["server"], "one": ["one"], "two": ["two"], "each": ["one", "two"]}
 # What the page has in place of what is one's own.
-SERVER, PASSWORD, PROGRAM = "db.example", "PASSWORD", "crates/wulameron/out/wulameron"
+SERVER, PASSWORD, PROGRAM = "db.example", "PASSWORD", "proved/wulameron"
 NETWORK = "10.0.0.0/8"
 # How many sessions there are, and how long one may take to end.
 SESSIONS, ENDING = "select count(*) from pg_stat_activity where usename = 'robots'", 10

@@ -27,6 +27,9 @@ use wulameron_trail::commands::{check, log, watch, watch_list};
 use wulameron_trail::pauses::Sleeper;
 use wulameron_view::viewing::{list, nodes, show};
 
+/// The program's version. Builds by tools/build-unproved and tools/build-proved have the commit behind it.
+const VERSION: &str = "0.1.0";
+
 const NO_LAUNCHER: &str = "is a log in a database; run wulameron-postgres with the same words";
 
 /// Prints the help that the words ask for, or what is wrong with them, and returns the status.
@@ -168,7 +171,7 @@ fn carry_out(
         Some(log) => Some(log.path.as_str()),
         None => None,
     };
-    match arguments(rt.alloc(), home, screen, words) {
+    match arguments(rt.alloc(), VERSION, home, screen, words) {
         Ok(Some(asked)) => {
             let mut asked = asked;
             if !is_prepared(rt, default, &asked) {

@@ -16,17 +16,19 @@ use iceoryx2_file_log::options::{FileLogOptions, Sharing};
 use std::alloc::{AllocError, Global};
 use std::time::Duration;
 
-/// Returns what the words ask for. The first word is the program's name. `home` is the log that is used if no word
-/// names one. What is asked for is printed on this screen. `None` if the words name no command, or nothing names a log.
+/// Returns what the words ask for. The first word is the program's name. `version` is what the program prints of itself.
+/// `home` is the log that is used if no word names one. What is asked for is printed on this screen. `None` if the words
+/// name no command, or nothing names a log.
 ///
 /// `Error` if the words are wrong, ask for help or the version, or if there is no memory.
 pub fn arguments<'a>(
     alloc: Global,
+    version: &'a str,
     home: Option<&'a str>,
     screen: Screen,
     words: &'a [String],
 ) -> Result<Option<Asked<'a>>, Error> {
-    let matches = command(alloc, home)?.try_get_matches_from(words)?;
+    let matches = command(alloc, version, home)?.try_get_matches_from(words)?;
     if let Some(matches) = matches.subcommand_matches("hold") {
         return Ok(hold_of(alloc, matches)?);
     }

@@ -3,9 +3,6 @@
 use clap::{Arg, ArgAction, Command, value_parser};
 use std::alloc::{AllocError, Global};
 
-/// The program's version.
-const VERSION: &str = "0.1.0";
-
 /// The words of the patterns.
 const PATTERNS: &[&str] = &["event", "pubsub", "rr"];
 
@@ -261,25 +258,33 @@ const COMMANDS: &[CommandRow] = &[
     },
 ];
 
-/// Returns what the program takes. `home` is the log that is used if no word names one.
-pub(crate) fn command<'a>(alloc: Global, home: Option<&'a str>) -> Result<Command<'a>, AllocError> {
+/// Returns what the program of this version takes. `home` is the log that is used if no word names one.
+pub(crate) fn command<'a>(
+    alloc: Global,
+    version: &'a str,
+    home: Option<&'a str>,
+) -> Result<Command<'a>, AllocError> {
     let mut command = Command::new(alloc, "wulameron")
-        .version(VERSION)
+        .version(version)
         .about("Creates and opens named services over a log that processes share")
         .subcommand_required(true)
         .arg(at(alloc, home))?
         .arg(behind(alloc, &WAIT, LAST))?
         .arg(behind(alloc, &PSQL, LAST + 1))?;
     for row in COMMANDS {
-        command = command.subcommand(command_of(alloc, row)?)?;
+        command = command.subcommand(command_of(alloc, version, row)?)?;
     }
     Ok(command)
 }
 
 /// Returns the command of a row, which has the program's version.
-fn command_of<'a>(alloc: Global, row: &CommandRow) -> Result<Command<'a>, AllocError> {
+fn command_of<'a>(
+    alloc: Global,
+    version: &'a str,
+    row: &CommandRow,
+) -> Result<Command<'a>, AllocError> {
     let mut command = Command::new(alloc, row.name)
-        .version(VERSION)
+        .version(version)
         .about(row.about);
     for row in row.rows {
         command = command.arg(arg_of(alloc, row)?)?;
