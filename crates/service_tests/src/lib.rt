@@ -8,7 +8,8 @@
 //! Journals (`journals`): what a refused call left of an own node is given back, also after an append in doubt, and a
 //! course leads from a world to a later one after histories that are drawn by chance.
 //!
-//! Programs print what their lines ask for, though a reader or a writer fails or is interrupted (`programs`).
+//! A reply is flushed before the next line is read, and a flush that fails ends the program (`flushes`). All else that
+//! programs do if their streams fail or are interrupted is shown by `tools/check-streams`, which runs the built ones.
 //!
 //! `tools/check-drawn` compares storages, and processes at one log, in schedules that are drawn by chance.
 #![tactic(auto)]
@@ -18,11 +19,11 @@ mod calls;
 #[cfg(test)]
 mod factories;
 #[cfg(test)]
+mod flushes;
+#[cfg(test)]
 mod journals;
 #[cfg(test)]
 mod paths;
-#[cfg(test)]
-mod programs;
 #[cfg(test)]
 mod sessions;
 #[cfg(test)]
