@@ -17,6 +17,8 @@ CONFIG = "crates/iceoryx2_description/src/config.rt"
 LONG = 70
 # What of std is implemented so often that it isn't listed, and what is for contracts alone.
 UNLISTED = {"", "Debug", "Eq", "Model", "PartialEq", "PartialOrd"}
+# What is for users, though no program and no test calls it.
+FOR_USERS = {"AttributeVerifier::required_keys", "MessagingPattern::is_same_pattern", "StaticConfig::with_creator"}
 SETTER = re.compile(r"\w+\((?:mut )?self(?:, \w+: ([^,()]+))?\) -> Self$")
 DERIVED = re.compile(r"^#\[derive\(([^)]*)\)\]", re.M)
 # The line of a comment by which the sources mark what iceoryx2 hides.
@@ -152,9 +154,10 @@ class Api:
         rows = self.methods(item, kind, text) if kind in ("struct", "enum", "trait") else []
         return [line("", f"{path}::{signature}", brief(of)) for signature, of in rows if HIDDEN.search(of)]
 
-    def is_called(self, method):
-        """Whether a program or a test calls a method of this name."""
-        return any(re.search(rf"(?:\.|::){method}\b", text) for text in self.callers)
+    def is_for_users(self, item, method):
+        """Whether a method of an item is for users: a program or a test calls one of this name, or it is listed as such."""
+        is_called = any(re.search(rf"(?:\.|::){method}\b", text) for text in self.callers)
+        return is_called or f"{item}::{method}" in FOR_USERS
 
     def lines(self, item, path=""):
         """The lines of an item: its own, with a path before its name, one for each method that iceoryx2 shows, and one
@@ -175,7 +178,7 @@ class Api:
             setter = SETTER.match(signature)
             if setter and (method in self.settings or method.startswith("disable_")):
                 setters.append(f"{method}({setter[1] or ''})")
-            elif kind != "trait" and not self.is_called(method):
+            elif kind != "trait" and not self.is_for_users(name, method):
                 rest.append(method)
             else:
                 lines.append(line("    ", signature, brief(of)))

@@ -12,6 +12,8 @@ from items import TOP
 Function = namedtuple("Function", "parts owned trait file top line last about text")
 # A struct, enum, trait, type or constant, with the lines of its declaration.
 Type = namedtuple("Type", "parts kind file line last about text")
+# A variant of an enum, whose path begins with the enum's, with its lines.
+Variant = namedtuple("Variant", "parts file line about text")
 # A clause: its word, its name or nothing, its line, and its lines.
 Clause = namedtuple("Clause", "word name line text")
 # A definition of specs/: its crate, its file's name there, its own name, the modules around it, and its text.
@@ -22,6 +24,7 @@ Edit = namedtuple("Edit", "file gate function target pairs")
 SEEN = r"(?:pub(?:\(\w+\))? )?"
 FUNCTION = re.compile(rf'^((?:    )?){SEEN}(?:const |extern "C" )?fn (\w+)')
 TYPE = re.compile(rf"^{SEEN}(struct|enum|trait|type|const) (\w+)")
+VARIANT = re.compile(r"^    ([A-Z]\w*)(?=[ ({,]|$)")
 OWNER = re.compile(rf"^impl|^{SEEN}trait (\w+)")
 CLAUSE = re.compile(r"^\s+(requires|ensures)(?: (\w+))? \{")
 NAMED = re.compile(r"^( *)(?:pub )?(?:data|record|abbrev) (?:pub )?([^\s:(){}]+)")
@@ -171,6 +174,20 @@ def types(file):
             last = end_of_declaration(lines, at)
             about, text = comment(lines, above(lines, at), at), lines[at : last + 1]
             found.append(Type((*module_of(file), named[2]), named[1], file, at + 1, last + 1, about, text))
+    return found
+
+
+@functools.cache
+def variants(file):
+    """The variants of the enums of a file."""
+    lines, found = lines_of(file), []
+    for each in types(file):
+        for at in range(each.line, each.last if each.kind == "enum" else 0):
+            named = VARIANT.match(lines[at])
+            if named:
+                last = lines.index("    },", at) if lines[at].endswith("{") else at
+                about = comment(lines, above(lines, at), at)
+                found.append(Variant((*each.parts, named[1]), file, at + 1, about, lines[at : last + 1]))
     return found
 
 
@@ -336,7 +353,7 @@ def proofs_of(function):
     if own or not owner:
         return own
     # A method is below the module of its type, and a type or a trait with arguments has their names there too.
-    named = re.compile(rf"{owner}(\+[\w+]*)?{function.trait}[\w+]*/{name}/\w+\.antt$")
+    named = re.compile(rf"/{owner}(\+[\w+]*)?{function.trait}[\w+]*/{name}/\w+\.antt$")
     return [file for file in files(f"crates/{crate}/proofs/**/*.antt") if named.search(file)]
 
 
