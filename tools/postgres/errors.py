@@ -1,6 +1,7 @@
 """What is refused by name, each with what to do: by the launcher before there is a session, and by the program."""
 import contextlib
 import os
+import pathlib
 import re
 import shutil
 import signal
@@ -138,6 +139,25 @@ def psql_refused(site, room):
         (folder / "psql").chmod(0o755)
         check_launched(site, text, ["list"], wanted, PATH=str(folder))
     check_launched(site, "no program", ["list"], ["there is no program /nowhere/x", "WULAMERON"], WULAMERON="/nowhere/x")
+
+
+def itself_refused(site, room):
+    """The launcher as its own program, by its name, a path or a link, or beside it: refused before it looks for a server."""
+    folder, launcher = room / "itself", pathlib.Path(site.words("x", "x")[0])
+    folder.mkdir()
+    for name in (launcher.name, "link", "wulameron"):
+        (folder / name).symlink_to(launcher)
+    (folder / "again").symlink_to("link")
+    os.link(shutil.copy(launcher, folder / "copy"), folder / "hard")
+    path, winding = f"{folder}:{os.environ['PATH']}", launcher.parent / ".." / launcher.parent.name / launcher.name
+    for name in (launcher.name, launcher, winding, "again", folder / "link"):
+        wanted = [f"the program {name} is this launcher", "unset WULAMERON"]
+        check_launched(site, f"as its program {name}", ["list"], wanted, WULAMERON=str(name), PATH=path, PGHOST="/nowhere")
+    for name, program in (("copy", str(folder / "hard")), (launcher.name, "")):
+        environment = site.environment(WULAMERON=program, PATH=path, PGHOST="/nowhere")
+        words, options = [str(folder / name), "list"], {"capture_output": True, "text": True, "timeout": SECONDS}
+        ran = subprocess.run(words, env=environment, check=False, **options)
+        site.checks.need(ran.returncode == FAULT and "is this launcher; " in ran.stderr, f"{name} as its own program: {ran}")
 
 
 def server_refused(site, room):
@@ -288,6 +308,7 @@ def errors(site):
     words_refused(site)
     told_program(site, room)
     psql_refused(site, room)
+    itself_refused(site, room)
     server_refused(site, room)
     all_taken(site)
     program_refused(site)
