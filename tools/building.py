@@ -1,4 +1,6 @@
-"""What the builds of programs from a copy of the tree share: `tools/build-unproved` and `tools/build-proved`."""
+"""What scripts share that use the kit: the builds of programs from a copy of the tree, and the kit's own module."""
+import functools
+import importlib.util
 import pathlib
 import re
 import shutil
@@ -81,6 +83,17 @@ def require_kit():
     """Ends if the kit isn't the one that TOOLCHAIN names."""
     if subprocess.run([TOP / "tools/check-toolchain"], check=False).returncode:
         sys.exit(1)
+
+
+def kit_module():
+    """The kit's own module, which knows the crates and their sums. It takes a crate's sum anew for each crate above it,
+    which is minutes for all of them, so here each is taken once."""
+    page = subprocess.run(["rt", "doc"], capture_output=True, text=True, check=True).stdout.strip()
+    spec = importlib.util.spec_from_file_location("rtlib", pathlib.Path(page).parent / "bin/rtlib.py")
+    module = importlib.util.module_from_spec(spec)
+    spec.loader.exec_module(module)
+    module.Crate.stamp = functools.cache(module.Crate.stamp)
+    return module
 
 
 def put(program, folder):
