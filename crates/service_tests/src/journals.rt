@@ -1,5 +1,3 @@
-//! Journals over logs in memory: what a process gives back of its own, and courses between two worlds.
+//! Journals over logs in memory: what a process gives back of its own.
 
-mod courses;
-mod forms;
 mod settling;

@@ -5,13 +5,13 @@
 //! world, and makes the accesses of its calls alone (`sessions`). The paths by which users name what the layer has
 //! (`paths`).
 //!
-//! Journals (`journals`): what a refused call left of an own node is given back, also after an append in doubt, and a
-//! course leads from a world to a later one after histories that are drawn by chance.
+//! Journals (`journals`): what a refused call left of an own node is given back, also after an append in doubt.
 //!
 //! A reply is flushed before the next line is read, and a flush that fails ends the program (`flushes`). All else that
 //! programs do if their streams fail or are interrupted is shown by `tools/check-streams`, which runs the built ones.
 //!
-//! `tools/check-drawn` compares storages, and processes at one log, in schedules that are drawn by chance.
+//! `tools/check-drawn` compares storages, and processes at one log, in random schedules. It also compacts logs of random
+//! histories, and lets processes follow the moves.
 #![tactic(auto)]
 
 #[cfg(test)]

@@ -50,15 +50,6 @@ pub fn drop_table(table: Table) {
     let _table = table;
 }
 
-/// Draws a number by chance: the next of those that follow a seed.
-pub fn draw(seed: &mut u64) -> u64 {
-    let next = seed
-        .wrapping_mul(6364136223846793005)
-        .wrapping_add(1442695040888963407);
-    *seed = next;
-    next >> 33
-}
-
 /// Copies of entries.
 pub fn copies(rt: &impl Abort, alloc: Global, entries: &[Entry]) -> Vec<Entry> {
     let mut copies = Vec::new(alloc);
