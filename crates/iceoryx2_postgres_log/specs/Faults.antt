@@ -1,6 +1,6 @@
 -- Why a log in a database refused: what it comes from, what a log answers, and the texts.
 use Rattle.std.specs.Prelude.{◌≡◌, ◌⊎◌, ℕ, Bool, true, false}
-use Rattle.std.specs.Prelude.{List, ◌++◌, codes, decimal, get_or, bytes_eq, if◌then◌else◌}
+use Rattle.std.specs.Prelude.{List, [], ◌++◌, codes, decimal, get_or, bytes_eq, if◌then◌else◌}
 use Rattle.std.specs.Char.{encode_utf8}
 use Rattle.iceoryx2_log.specs.declared.log.LogError.{LogError}
 use Rattle.iceoryx2_log.specs.declared.log.LogError.TheVariants as log
@@ -70,3 +70,10 @@ fault_text fault.IsAMark = codes "a mark is not appended"
 fault_text fault.Moved = codes "the log has moved"
 fault_text fault.NothingSaved = codes "a compaction would save too little"
 fault_text (fault.Refused state) = codes "the database refused (SQLSTATE " ++ state_text state (codes ")")
+
+-- what stands in it behind its words
+abbrev pub behind_words : PostgresFault → List ℕ
+behind_words (fault.AnotherVersion found) = decimal found
+behind_words (fault.Damaged number) = decimal number
+behind_words (fault.Refused state) = state_text state (codes ")")
+behind_words other = []

@@ -1,7 +1,7 @@
 //! The reason why a log in a database refused.
 
-ghost use Rattle.std.specs.Prelude.{◌≡◌};
-ghost use Rattle.iceoryx2_postgres_log.specs.Faults.{log_error_of, state_fault, is_over_by};
+ghost use Rattle.std.specs.Prelude.{◌≡◌, ◌++◌};
+ghost use Rattle.iceoryx2_postgres_log.specs.Faults.{behind_words, fault_text, is_over_by, log_error_of, state_fault};
 ghost use Rattle.iceoryx2_postgres_log.specs.declared.fault.PostgresFault.TheVariants.{OutOfMemory};
 ghost use Rattle.iceoryx2_postgres_log.specs.declared.fault.PostgresFault.TheVariants as fault;
 ghost use Rattle.iceoryx2_log.specs.declared.log.LogError.TheVariants as error;
@@ -61,52 +61,57 @@ pub enum PostgresFault {
     Refused { state: [u8; 5] },
 }
 
+impl PostgresFault {
+    /// Returns the fault's text, up to the number or the SQLSTATE in it.
+    fn words(self) -> &'static str
+        ensures { fault_text self ≡ result.now ++ behind_words self }
+    {
+        match self {
+            PostgresFault::Busy => "others hold the log",
+            PostgresFault::OutOfMemory => "out of memory",
+            PostgresFault::SessionEnded => "the session with the database has ended",
+            PostgresFault::Unsure => "an append was not confirmed and may stand in the log",
+            PostgresFault::NotUnderstood => "the database answered something else",
+            PostgresFault::NoSchema => "the database has no tables for logs",
+            PostgresFault::AnotherVersion { found: _ } => "the tables are of version ",
+            PostgresFault::NoLog => "the database has no log of this name",
+            PostgresFault::BadName => "is no name of a log",
+            PostgresFault::NoRight => "the role lacks a right",
+            PostgresFault::ReadOnly => "the database is read-only",
+            PostgresFault::AnotherHistory => "the log is not the one that was read before",
+            PostgresFault::Damaged { number: _ } => "is damaged at entry ",
+            PostgresFault::HeldAlready => "the log is held already",
+            PostgresFault::NotHeld => "the log is not held",
+            PostgresFault::Unread => "entries of others are unread",
+            PostgresFault::TooLong => "an entry's body has at most 1048576 bytes",
+            PostgresFault::IsAMark => "a mark is not appended",
+            PostgresFault::Moved => "the log has moved",
+            PostgresFault::NothingSaved => "a compaction would save too little",
+            PostgresFault::Refused { state: _ } => "the database refused (SQLSTATE ",
+        }
+    }
+}
+
 impl fmt::Display for PostgresFault {
     ghost use Rattle.std.specs.Prelude.{Some};
-    ghost use Rattle.iceoryx2_postgres_log.specs.Faults.{fault_text};
 
     ghost output = { λ fault. Some (fault_text fault) };
 
     fn fmt<W: fmt::Write>(&self, f: &mut fmt::Formatter<W>) -> fmt::Result {
+        let words = self.words();
         match self {
-            PostgresFault::Busy => write!(f, "others hold the log"),
-            PostgresFault::OutOfMemory => write!(f, "out of memory"),
-            PostgresFault::SessionEnded => write!(f, "the session with the database has ended"),
-            PostgresFault::Unsure => write!(
-                f,
-                "an append was not confirmed and may stand in the log"
-            ),
-            PostgresFault::NotUnderstood => write!(f, "the database answered something else"),
-            PostgresFault::NoSchema => write!(f, "the database has no tables for logs"),
-            PostgresFault::AnotherVersion { found } => write!(
-                f,
-                "the tables are of version {found}"
-            ),
-            PostgresFault::NoLog => write!(f, "the database has no log of this name"),
-            PostgresFault::BadName => write!(f, "is no name of a log"),
-            PostgresFault::NoRight => write!(f, "the role lacks a right"),
-            PostgresFault::ReadOnly => write!(f, "the database is read-only"),
-            PostgresFault::AnotherHistory => write!(
-                f,
-                "the log is not the one that was read before"
-            ),
-            PostgresFault::Damaged { number } => write!(f, "is damaged at entry {number}"),
-            PostgresFault::HeldAlready => write!(f, "the log is held already"),
-            PostgresFault::NotHeld => write!(f, "the log is not held"),
-            PostgresFault::Unread => write!(f, "entries of others are unread"),
-            PostgresFault::TooLong => write!(f, "an entry's body has at most 1048576 bytes"),
-            PostgresFault::IsAMark => write!(f, "a mark is not appended"),
-            PostgresFault::Moved => write!(f, "the log has moved"),
-            PostgresFault::NothingSaved => write!(f, "a compaction would save too little"),
+            PostgresFault::AnotherVersion { found: number } | PostgresFault::Damaged { number } =>
+                write!(f, "{words}{number}"),
             PostgresFault::Refused { state } => write!(
                 f,
-                "the database refused (SQLSTATE {}{}{}{}{})",
+                "{words}{}{}{}{}{})",
                 char::from(state[0]),
                 char::from(state[1]),
                 char::from(state[2]),
                 char::from(state[3]),
                 char::from(state[4]),
             ),
+            _ => write!(f, "{words}"),
         }
     }
 }
@@ -144,13 +149,19 @@ impl PostgresFault {
 pub fn fault_of_state(state: [u8; 5]) -> PostgresFault
     ensures { result ≡ state_fault state }
 {
-    match &state {
-        b"55P03" => PostgresFault::Busy,
-        b"3F000" | b"42883" | b"42P01" => PostgresFault::NoSchema,
-        b"42501" => PostgresFault::NoRight,
-        b"25006" => PostgresFault::ReadOnly,
-        _ => PostgresFault::Refused { state },
+    if &state == b"55P03" {
+        return PostgresFault::Busy;
     }
+    if &state == b"3F000" || &state == b"42883" || &state == b"42P01" {
+        return PostgresFault::NoSchema;
+    }
+    if &state == b"42501" {
+        return PostgresFault::NoRight;
+    }
+    if &state == b"25006" {
+        return PostgresFault::ReadOnly;
+    }
+    PostgresFault::Refused { state }
 }
 
 /// Returns the error that a log answers if its database refused for this fault.
