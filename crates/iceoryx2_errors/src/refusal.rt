@@ -4,6 +4,9 @@ ghost use Rattle.std.specs.Prelude.{◌≡◌, Some};
 ghost use Rattle.std.specs.List.{find};
 ghost use Rattle.iceoryx2_errors.specs.Numbers.{has_number, number_of, numbered};
 ghost use Rattle.iceoryx2_errors.specs.Reasons.{is_retried, may_be_a_dead_node, reason_name, reason_of};
+ghost use Rattle.iceoryx2_errors.specs.Reasons.{event_create_reason, event_open_reason};
+ghost use Rattle.iceoryx2_errors.specs.Reasons.{publish_subscribe_create_reason, publish_subscribe_open_reason};
+ghost use Rattle.iceoryx2_errors.specs.Reasons.{request_response_create_reason, request_response_open_reason};
 ghost use Rattle.iceoryx2_errors.specs.Texts.{text_of};
 ghost use Rattle.iceoryx2_errors.specs.declared.refusal.Refusal.{Refusal as AnyRefusal};
 
@@ -144,12 +147,13 @@ pub enum Refusal {
     RequestResponseOpenOrCreate(RequestResponseOpenOrCreateError),
 }
 
-/// The errors of each pattern's opens and creates, in the order of their enums. An error's place in its
-/// enum, from 1, is its number.
-macro_rules! each_error {
-    ($make:ident $given:expr) => {
+// The errors of each pattern's opens and creates, in the order of their enums. An error's place in its enum, from 1, is
+// its number. Each macro hands them on behind what it is given.
+
+macro_rules! event_errors {
+    ($make:ident $($given:tt)*) => {
         $make! {
-            $given;
+            $($given)*
             EventOpenOrCreate EventOpenOrCreateError
                 EventOpen EventOpenError {
                     DoesNotExist InsufficientPermissions ServiceInCorruptedState IncompatibleMessagingPattern
@@ -163,6 +167,14 @@ macro_rules! each_error {
                     ServiceInCorruptedState InternalFailure IsBeingCreatedByAnotherInstance AlreadyExists
                     HangsInCreation InsufficientPermissions OutOfMemory
                 }
+        }
+    };
+}
+
+macro_rules! publish_subscribe_errors {
+    ($make:ident $($given:tt)*) => {
+        $make! {
+            $($given)*
             PublishSubscribeOpenOrCreate PublishSubscribeOpenOrCreateError
                 PublishSubscribeOpen PublishSubscribeOpenError {
                     DoesNotExist InternalFailure IncompatibleTypes IncompatibleMessagingPattern
@@ -178,6 +190,14 @@ macro_rules! each_error {
                     InsufficientPermissions InternalFailure IsBeingCreatedByAnotherInstance HangsInCreation
                     OutOfMemory
                 }
+        }
+    };
+}
+
+macro_rules! request_response_errors {
+    ($make:ident $($given:tt)*) => {
+        $make! {
+            $($given)*
             RequestResponseOpenOrCreate RequestResponseOpenOrCreateError
                 RequestResponseOpen RequestResponseOpenError {
                     DoesNotExist DoesNotSupportRequestedAmountOfClientRequestLoans
@@ -200,7 +220,7 @@ macro_rules! each_error {
 }
 
 macro_rules! all {
-    ($given:expr; $($either:ident $eithers:ident
+    ($($either:ident $eithers:ident
         $open:ident $opens:ident { $($opening:ident)* }
         $create:ident $creates:ident { $($creating:ident)* })*) => {
         [$(
@@ -213,29 +233,63 @@ macro_rules! all {
     };
 }
 
-macro_rules! reason {
-    ($given:expr; $($either:ident $eithers:ident
+/// The reason of an error of an open.
+macro_rules! opening {
+    ($error:ident $either:ident $eithers:ident
         $open:ident $opens:ident { $($opening:ident)* }
-        $create:ident $creates:ident { $($creating:ident)* })*) => {
-        match $given {$(
-            $(Refusal::$open($opens::$opening) => Reason::$opening,)*
-            $(Refusal::$create($creates::$creating) => Reason::$creating,)*
-            $(Refusal::$either($eithers::$opens($opens::$opening)) => Reason::$opening,)*
-            $(Refusal::$either($eithers::$creates($creates::$creating)) => Reason::$creating,)*
-            Refusal::$either($eithers::SystemInFlux) => Reason::SystemInFlux,
-        )*}
+        $create:ident $creates:ident { $($creating:ident)* }) => {
+        match $error {
+            $($opens::$opening => Reason::$opening,)*
+        }
+    };
+}
+
+/// The reason of an error of a create.
+macro_rules! creating {
+    ($error:ident $either:ident $eithers:ident
+        $open:ident $opens:ident { $($opening:ident)* }
+        $create:ident $creates:ident { $($creating:ident)* }) => {
+        match $error {
+            $($creates::$creating => Reason::$creating,)*
+        }
     };
 }
 
 /// Each refusal once.
-const ALL: [Refusal; 163] = each_error!(all());
+const ALL: [Refusal; 163] = event_errors!(publish_subscribe_errors request_response_errors all);
 
 impl Refusal {
     /// Returns the reason, in a word that means the same whatever the call.
     pub fn reason(self) -> Reason
         ensures { result ≡ reason_of self }
     {
-        each_error!(reason self)
+        match self {
+            Refusal::EventOpen(error) => of_event_open(error),
+            Refusal::EventCreate(error) => of_event_create(error),
+            Refusal::EventOpenOrCreate(error) => match error {
+                EventOpenOrCreateError::EventOpenError(error) => of_event_open(error),
+                EventOpenOrCreateError::EventCreateError(error) => of_event_create(error),
+                EventOpenOrCreateError::SystemInFlux => Reason::SystemInFlux,
+            },
+            Refusal::PublishSubscribeOpen(error) => of_publish_subscribe_open(error),
+            Refusal::PublishSubscribeCreate(error) => of_publish_subscribe_create(error),
+            Refusal::PublishSubscribeOpenOrCreate(error) => match error {
+                PublishSubscribeOpenOrCreateError::PublishSubscribeOpenError(error) =>
+                    of_publish_subscribe_open(error),
+                PublishSubscribeOpenOrCreateError::PublishSubscribeCreateError(error) =>
+                    of_publish_subscribe_create(error),
+                PublishSubscribeOpenOrCreateError::SystemInFlux => Reason::SystemInFlux,
+            },
+            Refusal::RequestResponseOpen(error) => of_request_response_open(error),
+            Refusal::RequestResponseCreate(error) => of_request_response_create(error),
+            Refusal::RequestResponseOpenOrCreate(error) => match error {
+                RequestResponseOpenOrCreateError::RequestResponseOpenError(error) =>
+                    of_request_response_open(error),
+                RequestResponseOpenOrCreateError::RequestResponseCreateError(error) =>
+                    of_request_response_create(error),
+                RequestResponseOpenOrCreateError::SystemInFlux => Reason::SystemInFlux,
+            },
+        }
     }
 
     /// Returns the error's number: a thousand for the call's enum, and the error's place in the enum,
@@ -282,6 +336,44 @@ impl Refusal {
     {
         first_numbered(&ALL, number)
     }
+}
+
+// The reasons of each enum's errors. In one function the proof of all 163 took twice as long.
+
+fn of_event_open(error: EventOpenError) -> Reason
+    ensures { result ≡ event_open_reason error }
+{
+    event_errors!(opening error)
+}
+
+fn of_event_create(error: EventCreateError) -> Reason
+    ensures { result ≡ event_create_reason error }
+{
+    event_errors!(creating error)
+}
+
+fn of_publish_subscribe_open(error: PublishSubscribeOpenError) -> Reason
+    ensures { result ≡ publish_subscribe_open_reason error }
+{
+    publish_subscribe_errors!(opening error)
+}
+
+fn of_publish_subscribe_create(error: PublishSubscribeCreateError) -> Reason
+    ensures { result ≡ publish_subscribe_create_reason error }
+{
+    publish_subscribe_errors!(creating error)
+}
+
+fn of_request_response_open(error: RequestResponseOpenError) -> Reason
+    ensures { result ≡ request_response_open_reason error }
+{
+    request_response_errors!(opening error)
+}
+
+fn of_request_response_create(error: RequestResponseCreateError) -> Reason
+    ensures { result ≡ request_response_create_reason error }
+{
+    request_response_errors!(creating error)
 }
 
 fn first_numbered(refusals: &[Refusal], number: u64) -> Option<Refusal>
