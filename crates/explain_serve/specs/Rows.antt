@@ -24,7 +24,7 @@ abbrev row : (comes_when what_can_be_done : record { now : List ℕ }) → Texts
 row comes_when what_can_be_done = record { comes_when = comes_when.now; what_can_be_done = what_can_be_done.now }
 
 -- a setting that isn't met: an open or create has another way out than an open
-abbrev required : Part → (comes_when after_open after_either : record { now : List ℕ }) → Texts
+abbrev pub required : Part → (comes_when after_open after_either : record { now : List ℕ }) → Texts
 required part.Open comes_when after_open after_either = row comes_when after_open
 required _ comes_when after_open after_either = row comes_when after_either
 

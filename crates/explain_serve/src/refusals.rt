@@ -2,7 +2,9 @@
 
 ghost use Rattle.std.specs.Prelude.{◌≡◌, ◌++◌, OnOk, string_bytes};
 ghost use Rattle.explain_serve.specs.Refusals.{part_of, pattern_of, refusal_row, row_lines};
-ghost use Rattle.explain_serve.specs.Rows.{row_of, texts_of};
+ghost use Rattle.explain_serve.specs.Rows.{required, row_of, texts_of};
+ghost use Rattle.explain_serve.specs.declared.refusals.Pattern.{Pattern as AnyPattern};
+ghost use Rattle.iceoryx2_errors.specs.declared.refusal.Reason.TheVariants as reason;
 
 mod comes_when;
 mod what_can_be_done;
@@ -34,149 +36,26 @@ enum Pattern {
     RequestResponse,
 }
 
-/// The two texts of each reason, by their names. First the settings: when it comes, what can be done after an open, and
-/// what after an open or create. Then the other reasons: for what part of a call and what pattern, and the texts; the
-/// first that fits counts.
-macro_rules! each_row {
-    ($make:ident $reason:expr, $part:expr, $pattern:expr) => {
-        $make! {
-            $reason, $part, $pattern;
-            IncompatibleDeadline DEADLINE MATCH_DEADLINE MATCH_DEADLINE_OR_DEFAULT;
-            IncompatibleNotifierCreatedEvent NOTIFIER_CREATED_EVENT MATCH_CREATED_EVENT MATCH_CREATED_EVENT_OR_DEFAULT;
-            IncompatibleNotifierDroppedEvent NOTIFIER_DROPPED_EVENT MATCH_DROPPED_EVENT MATCH_DROPPED_EVENT_OR_DEFAULT;
-            IncompatibleNotifierDeadEvent NOTIFIER_DEAD_EVENT MATCH_DEAD_EVENT MATCH_DEAD_EVENT_OR_DEFAULT;
-            DoesNotSupportRequestedAmountOfNotifiers MAX_NOTIFIERS ASK_FOR_AS_MANY ASK_FOR_AS_MANY_OR_DEFAULT;
-            DoesNotSupportRequestedAmountOfListeners MAX_LISTENERS ASK_FOR_AS_MANY ASK_FOR_AS_MANY_OR_DEFAULT;
-            DoesNotSupportRequestedMaxEventId EVENT_ID_MAX_VALUE ASK_FOR_AS_MUCH ASK_FOR_AS_MUCH_OR_DEFAULT;
-            DoesNotSupportRequestedMinBufferSize SUBSCRIBER_MAX_BUFFER_SIZE ASK_FOR_AS_MUCH ASK_FOR_AS_MUCH_OR_DEFAULT;
-            DoesNotSupportRequestedMinHistorySize HISTORY_SIZE ASK_FOR_AS_MUCH ASK_FOR_AS_MUCH_OR_DEFAULT;
-            DoesNotSupportRequestedMinSubscriberBorrowedSamples SUBSCRIBER_MAX_BORROWED_SAMPLES ASK_FOR_AS_MUCH ASK_FOR_AS_MUCH_OR_DEFAULT;
-            DoesNotSupportRequestedAmountOfPublishers MAX_PUBLISHERS ASK_FOR_AS_MANY ASK_FOR_AS_MANY_OR_DEFAULT;
-            DoesNotSupportRequestedAmountOfSubscribers MAX_SUBSCRIBERS ASK_FOR_AS_MANY ASK_FOR_AS_MANY_OR_DEFAULT;
-            IncompatibleOverflowBehavior ENABLE_SAFE_OVERFLOW MATCH MATCH_OR_DEFAULT;
-            DoesNotSupportRequestedAmountOfClientRequestLoans MAX_LOANED_REQUESTS ASK_FOR_AS_MUCH ASK_FOR_AS_MUCH_OR_DEFAULT;
-            DoesNotSupportRequestedAmountOfActiveRequestsPerClient MAX_ACTIVE_REQUESTS_PER_CLIENT ASK_FOR_AS_MUCH ASK_FOR_AS_MUCH_OR_DEFAULT;
-            DoesNotSupportRequestedResponseBufferSize MAX_RESPONSE_BUFFER_SIZE ASK_FOR_AS_MUCH ASK_FOR_AS_MUCH_OR_DEFAULT;
-            DoesNotSupportRequestedAmountOfServers MAX_SERVERS ASK_FOR_AS_MANY ASK_FOR_AS_MANY_OR_DEFAULT;
-            DoesNotSupportRequestedAmountOfClients MAX_CLIENTS ASK_FOR_AS_MANY ASK_FOR_AS_MANY_OR_DEFAULT;
-            DoesNotSupportRequestedAmountOfBorrowedResponsesPerPendingResponse MAX_BORROWED_RESPONSES_PER_PENDING_RESPONSE ASK_FOR_AS_MUCH ASK_FOR_AS_MUCH_OR_DEFAULT;
-            IncompatibleOverflowBehaviorForRequests ENABLE_SAFE_OVERFLOW_FOR_REQUESTS MATCH MATCH_OR_DEFAULT;
-            IncompatibleOverflowBehaviorForResponses ENABLE_SAFE_OVERFLOW_FOR_RESPONSES MATCH MATCH_OR_DEFAULT;
-            IncompatibleBehaviorForFireAndForgetRequests ENABLE_FIRE_AND_FORGET_REQUESTS MATCH MATCH_OR_DEFAULT;
-            =>
-            DoesNotExist { Part::Open, _ => NO_SERVICE CREATE_IT; _, _ => ROUND_NO_SERVICE NOTHING_AS_IN_FLUX; }
-            InsufficientPermissions {
-                Part::Open, _ => UNREADABLE GRANT_READING;
-                Part::RoundOpen, _ => ROUND_UNREADABLE GRANT_READING;
-                Part::Create, _ => CREATE_FORBIDDEN GRANT_WRITING;
-                _, _ => ROUND_CREATE_FORBIDDEN GRANT_WRITING;
-            }
-            ServiceInCorruptedState {
-                Part::Open, _ => CORRUPTED RETRY_OR_REMOVE;
-                Part::RoundOpen, _ => ROUND_CORRUPTED RETRY_OR_CLEAR;
-                Part::Create, _ => CREATE_CORRUPTED RETRY_OR_CLEAR;
-                _, _ => ROUND_CREATE_CORRUPTED NOTHING_AS_NEXT_LOOK_TELLS;
-            }
-            IncompatibleMessagingPattern {
-                Part::Open, Pattern::Event => OTHER_PATTERN TAKE_ANOTHER_NAME;
-                Part::Open, _ => OTHER_PATTERN_BEFORE_TYPES TAKE_ANOTHER_NAME;
-                _, Pattern::Event => ROUND_OTHER_PATTERN TAKE_ANOTHER_NAME;
-                _, _ => ROUND_OTHER_PATTERN_BEFORE_TYPES TAKE_ANOTHER_NAME;
-            }
-            IncompatibleAttributes {
-                Part::Open, Pattern::Event => ATTRIBUTES REQUIRE_LESS;
-                Part::Open, _ => ATTRIBUTES_AFTER_TYPES REQUIRE_LESS;
-                _, Pattern::Event => ROUND_ATTRIBUTES DEFINE_KEYS;
-                _, _ => ROUND_ATTRIBUTES_AFTER_TYPES DEFINE_KEYS;
-            }
-            InternalFailure {
-                Part::Open, _ => NO_TAG_OR_TICKET RETRY_OR_NEW_TABLE;
-                Part::RoundOpen, _ => NO_TAG_OR_TICKET RETRY_OR_NEW_TABLE;
-                Part::Create, Pattern::Event => CREATE_FAILS_OR_NO_TIME GIVE_TIME;
-                Part::Create, _ => CREATE_FAILS NEW_TABLE_OR_RETRY;
-                _, Pattern::Event => ROUND_CREATE_FAILS_OR_NO_TIME GIVE_TIME;
-                _, _ => ROUND_CREATE_FAILS NEW_TABLE_OR_RETRY;
-            }
-            HangsInCreation {
-                Part::Open, _ => LOCKED RETRY_AFTER_LOCK;
-                Part::RoundOpen, _ => ROUND_LOCKED RETRY_AFTER_LOCK;
-                Part::Create, _ => CREATE_FINDS_LOCK OPEN_AFTER_LOCK;
-                _, _ => ROUND_CREATE_FINDS_LOCK RETRY_AFTER_LOCK;
-            }
-            DoesNotSupportRequestedAmountOfNodes {
-                Part::Open, Pattern::Event => EVENT_MAX_NODES ASK_FOR_AS_MANY;
-                Part::Open, Pattern::PublishSubscribe => PUBLISH_SUBSCRIBE_MAX_NODES ASK_FOR_AS_MANY;
-                Part::Open, _ => REQUEST_RESPONSE_MAX_NODES ASK_FOR_AS_MANY;
-                _, Pattern::Event => EVENT_MAX_NODES ASK_FOR_AS_MANY_OR_DEFAULT;
-                _, Pattern::PublishSubscribe => PUBLISH_SUBSCRIBE_MAX_NODES ASK_FOR_AS_MANY_OR_DEFAULT;
-                _, _ => REQUEST_RESPONSE_MAX_NODES ASK_FOR_AS_MANY_OR_DEFAULT;
-            }
-            ExceedsMaxNumberOfNodes { Part::Open, _ => FULL WAIT_FOR_ROOM; _, _ => ROUND_FULL WAIT_FOR_ROOM; }
-            IsMarkedForDestruction {
-                Part::Open, _ => MARKED WAIT_AND_CREATE;
-                _, _ => ROUND_MARKED NOTHING_UNLESS_LEFT;
-            }
-            OutOfMemory {
-                Part::Open, Pattern::Event => NO_MEMORY FREE_MEMORY;
-                Part::Open, _ => NO_MEMORY_OR_TYPES FREE_MEMORY;
-                Part::RoundOpen, Pattern::Event => ROUND_NO_MEMORY FREE_MEMORY;
-                Part::RoundOpen, _ => ROUND_NO_MEMORY_OR_TYPES FREE_MEMORY;
-                Part::Create, Pattern::Event => CREATE_NO_MEMORY FREE_MEMORY_FOR_CREATE;
-                Part::Create, Pattern::PublishSubscribe => CREATE_NO_MEMORY_BEFORE_HISTORY FREE_MEMORY_FOR_CREATE;
-                Part::Create, _ => CREATE_NO_MEMORY_OR_TYPES FREE_MEMORY_FOR_CREATE;
-                _, Pattern::Event => ROUND_CREATE_NO_MEMORY FREE_MEMORY_FOR_CREATE;
-                _, _ => ROUND_CREATE_NO_MEMORY_BUT_TYPES FREE_MEMORY_FOR_CREATE;
-            }
-            IsBeingCreatedByAnotherInstance {
-                Part::Create, _ => OTHERS_LOCK OPEN_LATER;
-                _, _ => ROUND_OTHERS_LOCK NOTHING_AS_LOCKED;
-            }
-            AlreadyExists {
-                Part::Create, Pattern::Event => EXISTS OPEN_IT;
-                Part::Create, Pattern::PublishSubscribe => EXISTS_OF_ANY_TYPES OPEN_OR_ANOTHER_NAME;
-                Part::Create, _ => EXISTS_OF_ANY_REQUEST_OR_RESPONSE OPEN_OR_ANOTHER_NAME;
-                _, _ => ROUND_EXISTS NOTHING_AS_ROUND_OPENS;
-            }
-            SystemInFlux { _, _ => SIX_ROUNDS NAME_THE_CAUSE; }
-            IncompatibleTypes { Part::Open, _ => TYPES MATCH_TYPES; _, _ => ROUND_TYPES MATCH_TYPES; }
-            SubscriberBufferMustBeLargerThanHistorySize {
-                Part::Create, _ => HISTORY MAKE_ROOM_FOR_HISTORY;
-                _, _ => ROUND_HISTORY MAKE_ROOM_OR_OPEN;
-            }
-            IncompatibleRequestType {
-                Part::Open, _ => REQUEST_TYPE MATCH_REQUEST;
-                _, _ => ROUND_REQUEST_TYPE MATCH_REQUEST;
-            }
-            IncompatibleResponseType {
-                Part::Open, _ => RESPONSE_TYPE MATCH_RESPONSE;
-                _, _ => ROUND_RESPONSE_TYPE MATCH_RESPONSE;
-            }
-        }
-    };
-}
-
-macro_rules! row_of {
-    ($reason:expr, $part:expr, $pattern:expr;
-        $($setting:ident $asked:ident $opening:ident $either:ident;)* =>
-        $($name:ident { $($of:pat, $from:pat => $when:ident $what:ident;)* })*) => {
-        match $reason {
-            $(Reason::$setting => match $part {
-                Part::Open => row!($asked $opening),
-                _ => row!($asked $either),
-            },)*
-            $(Reason::$name => match ($part, $pattern) {
-                $(($of, $from) => row!($when $what),)*
-            },)*
-        }
-    };
-}
-
+/// These two texts.
 macro_rules! row {
     ($comes_when:ident $what_can_be_done:ident) => {
         RefusalRow {
             comes_when: comes_when::$comes_when,
             what_can_be_done: what_can_be_done::$what_can_be_done,
         }
+    };
+}
+
+/// The row of a setting that isn't met: when it comes, what can be done after an open, and what after an open or
+/// create.
+macro_rules! setting {
+    ($part:expr, $comes_when:ident $after_open:ident $after_either:ident) => {
+        of_setting(
+            $part,
+            comes_when::$comes_when,
+            what_can_be_done::$after_open,
+            what_can_be_done::$after_either,
+        )
     };
 }
 
@@ -197,11 +76,241 @@ impl RefusalRow {
     }
 }
 
-/// Returns the row of a reason, if this part of a call for this pattern refuses.
+/// Returns the row of a reason, if this part of a call for this pattern refuses. The reasons of several rows have
+/// functions of their own: the borrow check of one function of all rows took 48 seconds.
 fn row_of(reason: Reason, part: Part, pattern: Pattern) -> RefusalRow
     ensures { texts_of result ≡ row_of reason part pattern }
 {
-    each_row!(row_of reason, part, pattern)
+    match reason {
+        Reason::IncompatibleDeadline =>
+            setting!(part, DEADLINE MATCH_DEADLINE MATCH_DEADLINE_OR_DEFAULT),
+        Reason::IncompatibleNotifierCreatedEvent =>
+            setting!(part, NOTIFIER_CREATED_EVENT MATCH_CREATED_EVENT MATCH_CREATED_EVENT_OR_DEFAULT),
+        Reason::IncompatibleNotifierDroppedEvent =>
+            setting!(part, NOTIFIER_DROPPED_EVENT MATCH_DROPPED_EVENT MATCH_DROPPED_EVENT_OR_DEFAULT),
+        Reason::IncompatibleNotifierDeadEvent =>
+            setting!(part, NOTIFIER_DEAD_EVENT MATCH_DEAD_EVENT MATCH_DEAD_EVENT_OR_DEFAULT),
+        Reason::DoesNotSupportRequestedAmountOfNotifiers =>
+            setting!(part, MAX_NOTIFIERS ASK_FOR_AS_MANY ASK_FOR_AS_MANY_OR_DEFAULT),
+        Reason::DoesNotSupportRequestedAmountOfListeners =>
+            setting!(part, MAX_LISTENERS ASK_FOR_AS_MANY ASK_FOR_AS_MANY_OR_DEFAULT),
+        Reason::DoesNotSupportRequestedMaxEventId =>
+            setting!(part, EVENT_ID_MAX_VALUE ASK_FOR_AS_MUCH ASK_FOR_AS_MUCH_OR_DEFAULT),
+        Reason::DoesNotSupportRequestedMinBufferSize =>
+            setting!(part, SUBSCRIBER_MAX_BUFFER_SIZE ASK_FOR_AS_MUCH ASK_FOR_AS_MUCH_OR_DEFAULT),
+        Reason::DoesNotSupportRequestedMinHistorySize =>
+            setting!(part, HISTORY_SIZE ASK_FOR_AS_MUCH ASK_FOR_AS_MUCH_OR_DEFAULT),
+        Reason::DoesNotSupportRequestedMinSubscriberBorrowedSamples =>
+            setting!(part, SUBSCRIBER_MAX_BORROWED_SAMPLES ASK_FOR_AS_MUCH ASK_FOR_AS_MUCH_OR_DEFAULT),
+        Reason::DoesNotSupportRequestedAmountOfPublishers =>
+            setting!(part, MAX_PUBLISHERS ASK_FOR_AS_MANY ASK_FOR_AS_MANY_OR_DEFAULT),
+        Reason::DoesNotSupportRequestedAmountOfSubscribers =>
+            setting!(part, MAX_SUBSCRIBERS ASK_FOR_AS_MANY ASK_FOR_AS_MANY_OR_DEFAULT),
+        Reason::IncompatibleOverflowBehavior =>
+            setting!(part, ENABLE_SAFE_OVERFLOW MATCH MATCH_OR_DEFAULT),
+        Reason::DoesNotSupportRequestedAmountOfClientRequestLoans =>
+            setting!(part, MAX_LOANED_REQUESTS ASK_FOR_AS_MUCH ASK_FOR_AS_MUCH_OR_DEFAULT),
+        Reason::DoesNotSupportRequestedAmountOfActiveRequestsPerClient =>
+            setting!(part, MAX_ACTIVE_REQUESTS_PER_CLIENT ASK_FOR_AS_MUCH ASK_FOR_AS_MUCH_OR_DEFAULT),
+        Reason::DoesNotSupportRequestedResponseBufferSize =>
+            setting!(part, MAX_RESPONSE_BUFFER_SIZE ASK_FOR_AS_MUCH ASK_FOR_AS_MUCH_OR_DEFAULT),
+        Reason::DoesNotSupportRequestedAmountOfServers =>
+            setting!(part, MAX_SERVERS ASK_FOR_AS_MANY ASK_FOR_AS_MANY_OR_DEFAULT),
+        Reason::DoesNotSupportRequestedAmountOfClients =>
+            setting!(part, MAX_CLIENTS ASK_FOR_AS_MANY ASK_FOR_AS_MANY_OR_DEFAULT),
+        Reason::DoesNotSupportRequestedAmountOfBorrowedResponsesPerPendingResponse =>
+            setting!(part, MAX_BORROWED_RESPONSES_PER_PENDING_RESPONSE ASK_FOR_AS_MUCH ASK_FOR_AS_MUCH_OR_DEFAULT),
+        Reason::IncompatibleOverflowBehaviorForRequests =>
+            setting!(part, ENABLE_SAFE_OVERFLOW_FOR_REQUESTS MATCH MATCH_OR_DEFAULT),
+        Reason::IncompatibleOverflowBehaviorForResponses =>
+            setting!(part, ENABLE_SAFE_OVERFLOW_FOR_RESPONSES MATCH MATCH_OR_DEFAULT),
+        Reason::IncompatibleBehaviorForFireAndForgetRequests =>
+            setting!(part, ENABLE_FIRE_AND_FORGET_REQUESTS MATCH MATCH_OR_DEFAULT),
+        Reason::DoesNotExist => match part {
+            Part::Open => row!(NO_SERVICE CREATE_IT),
+            _ => row!(ROUND_NO_SERVICE NOTHING_AS_IN_FLUX),
+        },
+        Reason::ExceedsMaxNumberOfNodes => match part {
+            Part::Open => row!(FULL WAIT_FOR_ROOM),
+            _ => row!(ROUND_FULL WAIT_FOR_ROOM),
+        },
+        Reason::IsMarkedForDestruction => match part {
+            Part::Open => row!(MARKED WAIT_AND_CREATE),
+            _ => row!(ROUND_MARKED NOTHING_UNLESS_LEFT),
+        },
+        Reason::IsBeingCreatedByAnotherInstance => match part {
+            Part::Create => row!(OTHERS_LOCK OPEN_LATER),
+            _ => row!(ROUND_OTHERS_LOCK NOTHING_AS_LOCKED),
+        },
+        Reason::IncompatibleTypes => match part {
+            Part::Open => row!(TYPES MATCH_TYPES),
+            _ => row!(ROUND_TYPES MATCH_TYPES),
+        },
+        Reason::SubscriberBufferMustBeLargerThanHistorySize => match part {
+            Part::Create => row!(HISTORY MAKE_ROOM_FOR_HISTORY),
+            _ => row!(ROUND_HISTORY MAKE_ROOM_OR_OPEN),
+        },
+        Reason::IncompatibleRequestType => match part {
+            Part::Open => row!(REQUEST_TYPE MATCH_REQUEST),
+            _ => row!(ROUND_REQUEST_TYPE MATCH_REQUEST),
+        },
+        Reason::IncompatibleResponseType => match part {
+            Part::Open => row!(RESPONSE_TYPE MATCH_RESPONSE),
+            _ => row!(ROUND_RESPONSE_TYPE MATCH_RESPONSE),
+        },
+        Reason::SystemInFlux => row!(SIX_ROUNDS NAME_THE_CAUSE),
+        Reason::InsufficientPermissions => unreadable(part),
+        Reason::ServiceInCorruptedState => corrupted(part),
+        Reason::IncompatibleMessagingPattern => other_pattern(part, pattern),
+        Reason::IncompatibleAttributes => attributes(part, pattern),
+        Reason::InternalFailure => failure(part, pattern),
+        Reason::HangsInCreation => locked(part),
+        Reason::DoesNotSupportRequestedAmountOfNodes => max_nodes(part, pattern),
+        Reason::OutOfMemory => no_memory(part, pattern),
+        Reason::AlreadyExists => exists(part, pattern),
+    }
+}
+
+/// Returns the row of a setting that isn't met: an open or create has another way out than an open.
+fn of_setting(
+    part: Part,
+    comes_when: &'static str,
+    after_open: &'static str,
+    after_either: &'static str,
+) -> RefusalRow
+    ensures { texts_of result ≡ required part (record { now = comes_when.now }) (record { now = after_open.now })
+        (record { now = after_either.now }) }
+{
+    match part {
+        Part::Open => RefusalRow {
+            comes_when,
+            what_can_be_done: after_open,
+        },
+        _ => RefusalRow {
+            comes_when,
+            what_can_be_done: after_either,
+        },
+    }
+}
+
+/// Returns the row of `InsufficientPermissions`.
+fn unreadable(part: Part) -> RefusalRow
+    ensures { (pattern : AnyPattern) → texts_of result ≡ row_of reason.InsufficientPermissions part pattern }
+{
+    match part {
+        Part::Open => row!(UNREADABLE GRANT_READING),
+        Part::RoundOpen => row!(ROUND_UNREADABLE GRANT_READING),
+        Part::Create => row!(CREATE_FORBIDDEN GRANT_WRITING),
+        _ => row!(ROUND_CREATE_FORBIDDEN GRANT_WRITING),
+    }
+}
+
+/// Returns the row of `ServiceInCorruptedState`.
+fn corrupted(part: Part) -> RefusalRow
+    ensures { (pattern : AnyPattern) → texts_of result ≡ row_of reason.ServiceInCorruptedState part pattern }
+{
+    match part {
+        Part::Open => row!(CORRUPTED RETRY_OR_REMOVE),
+        Part::RoundOpen => row!(ROUND_CORRUPTED RETRY_OR_CLEAR),
+        Part::Create => row!(CREATE_CORRUPTED RETRY_OR_CLEAR),
+        _ => row!(ROUND_CREATE_CORRUPTED NOTHING_AS_NEXT_LOOK_TELLS),
+    }
+}
+
+/// Returns the row of `IncompatibleMessagingPattern`.
+fn other_pattern(part: Part, pattern: Pattern) -> RefusalRow
+    ensures { texts_of result ≡ row_of reason.IncompatibleMessagingPattern part pattern }
+{
+    match (part, pattern) {
+        (Part::Open, Pattern::Event) => row!(OTHER_PATTERN TAKE_ANOTHER_NAME),
+        (Part::Open, _) => row!(OTHER_PATTERN_BEFORE_TYPES TAKE_ANOTHER_NAME),
+        (_, Pattern::Event) => row!(ROUND_OTHER_PATTERN TAKE_ANOTHER_NAME),
+        (_, _) => row!(ROUND_OTHER_PATTERN_BEFORE_TYPES TAKE_ANOTHER_NAME),
+    }
+}
+
+/// Returns the row of `IncompatibleAttributes`.
+fn attributes(part: Part, pattern: Pattern) -> RefusalRow
+    ensures { texts_of result ≡ row_of reason.IncompatibleAttributes part pattern }
+{
+    match (part, pattern) {
+        (Part::Open, Pattern::Event) => row!(ATTRIBUTES REQUIRE_LESS),
+        (Part::Open, _) => row!(ATTRIBUTES_AFTER_TYPES REQUIRE_LESS),
+        (_, Pattern::Event) => row!(ROUND_ATTRIBUTES DEFINE_KEYS),
+        (_, _) => row!(ROUND_ATTRIBUTES_AFTER_TYPES DEFINE_KEYS),
+    }
+}
+
+/// Returns the row of `InternalFailure`.
+fn failure(part: Part, pattern: Pattern) -> RefusalRow
+    ensures { texts_of result ≡ row_of reason.InternalFailure part pattern }
+{
+    match (part, pattern) {
+        (Part::Open, _) => row!(NO_TAG_OR_TICKET RETRY_OR_NEW_TABLE),
+        (Part::RoundOpen, _) => row!(NO_TAG_OR_TICKET RETRY_OR_NEW_TABLE),
+        (Part::Create, Pattern::Event) => row!(CREATE_FAILS_OR_NO_TIME GIVE_TIME),
+        (Part::Create, _) => row!(CREATE_FAILS NEW_TABLE_OR_RETRY),
+        (_, Pattern::Event) => row!(ROUND_CREATE_FAILS_OR_NO_TIME GIVE_TIME),
+        (_, _) => row!(ROUND_CREATE_FAILS NEW_TABLE_OR_RETRY),
+    }
+}
+
+/// Returns the row of `HangsInCreation`.
+fn locked(part: Part) -> RefusalRow
+    ensures { (pattern : AnyPattern) → texts_of result ≡ row_of reason.HangsInCreation part pattern }
+{
+    match part {
+        Part::Open => row!(LOCKED RETRY_AFTER_LOCK),
+        Part::RoundOpen => row!(ROUND_LOCKED RETRY_AFTER_LOCK),
+        Part::Create => row!(CREATE_FINDS_LOCK OPEN_AFTER_LOCK),
+        _ => row!(ROUND_CREATE_FINDS_LOCK RETRY_AFTER_LOCK),
+    }
+}
+
+/// Returns the row of `DoesNotSupportRequestedAmountOfNodes`.
+fn max_nodes(part: Part, pattern: Pattern) -> RefusalRow
+    ensures { texts_of result ≡ row_of reason.DoesNotSupportRequestedAmountOfNodes part pattern }
+{
+    match (part, pattern) {
+        (Part::Open, Pattern::Event) => row!(EVENT_MAX_NODES ASK_FOR_AS_MANY),
+        (Part::Open, Pattern::PublishSubscribe) =>
+            row!(PUBLISH_SUBSCRIBE_MAX_NODES ASK_FOR_AS_MANY),
+        (Part::Open, _) => row!(REQUEST_RESPONSE_MAX_NODES ASK_FOR_AS_MANY),
+        (_, Pattern::Event) => row!(EVENT_MAX_NODES ASK_FOR_AS_MANY_OR_DEFAULT),
+        (_, Pattern::PublishSubscribe) =>
+            row!(PUBLISH_SUBSCRIBE_MAX_NODES ASK_FOR_AS_MANY_OR_DEFAULT),
+        (_, _) => row!(REQUEST_RESPONSE_MAX_NODES ASK_FOR_AS_MANY_OR_DEFAULT),
+    }
+}
+
+/// Returns the row of `OutOfMemory`.
+fn no_memory(part: Part, pattern: Pattern) -> RefusalRow
+    ensures { texts_of result ≡ row_of reason.OutOfMemory part pattern }
+{
+    match (part, pattern) {
+        (Part::Open, Pattern::Event) => row!(NO_MEMORY FREE_MEMORY),
+        (Part::Open, _) => row!(NO_MEMORY_OR_TYPES FREE_MEMORY),
+        (Part::RoundOpen, Pattern::Event) => row!(ROUND_NO_MEMORY FREE_MEMORY),
+        (Part::RoundOpen, _) => row!(ROUND_NO_MEMORY_OR_TYPES FREE_MEMORY),
+        (Part::Create, Pattern::Event) => row!(CREATE_NO_MEMORY FREE_MEMORY_FOR_CREATE),
+        (Part::Create, Pattern::PublishSubscribe) =>
+            row!(CREATE_NO_MEMORY_BEFORE_HISTORY FREE_MEMORY_FOR_CREATE),
+        (Part::Create, _) => row!(CREATE_NO_MEMORY_OR_TYPES FREE_MEMORY_FOR_CREATE),
+        (_, Pattern::Event) => row!(ROUND_CREATE_NO_MEMORY FREE_MEMORY_FOR_CREATE),
+        (_, _) => row!(ROUND_CREATE_NO_MEMORY_BUT_TYPES FREE_MEMORY_FOR_CREATE),
+    }
+}
+
+/// Returns the row of `AlreadyExists`.
+fn exists(part: Part, pattern: Pattern) -> RefusalRow
+    ensures { texts_of result ≡ row_of reason.AlreadyExists part pattern }
+{
+    match (part, pattern) {
+        (Part::Create, Pattern::Event) => row!(EXISTS OPEN_IT),
+        (Part::Create, Pattern::PublishSubscribe) => row!(EXISTS_OF_ANY_TYPES OPEN_OR_ANOTHER_NAME),
+        (Part::Create, _) => row!(EXISTS_OF_ANY_REQUEST_OR_RESPONSE OPEN_OR_ANOTHER_NAME),
+        (_, _) => row!(ROUND_EXISTS NOTHING_AS_ROUND_OPENS),
+    }
 }
 
 /// Returns the part of the call that refuses.
