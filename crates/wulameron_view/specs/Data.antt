@@ -1,5 +1,6 @@
 -- The services of a world as JSON. The keys of an object stand in alphabetical order.
 use Rattle.std.specs.Prelude.{ℕ, true, false, not, List, [], ◌∷◌, ◌++◌, map, Option, Some, None, codes}
+use Rattle.std.specs.Borrow.{Bor}
 use Rattle.std.specs.List.{flat_map}
 use Rattle.hex.specs.Hex.{encode_lower}
 use Rattle.serde_json.specs.Data.{Data, null, boolean, number, unsigned, string, array, object}
@@ -10,11 +11,14 @@ use Rattle.iceoryx2_attribute.specs.Attributes.{Pair}
 use Rattle.iceoryx2_types.specs.Types.{Detail, Message}
 use Rattle.iceoryx2_description.specs.Span.{Span}
 use Rattle.iceoryx2_description.specs.declared.event.Deadline.{Deadline}
+use Rattle.iceoryx2_description.specs.declared.request_response.StaticConfig.{StaticConfig as RequestSettings}
 use Rattle.iceoryx2_description.specs.declared.description.MessagingPattern.{MessagingPattern}
 use Rattle.iceoryx2_description.specs.declared.description.MessagingPattern.TheVariants as pattern
 use Rattle.iceoryx2_monitoring.specs.declared.state.NodeState.{NodeState}
 use Rattle.iceoryx2_monitoring.specs.declared.state.NodeState.TheVariants as state
 use Rattle.iceoryx2_monitoring.specs.declared.state.NodeStatus.{NodeStatus}
+use Rattle.wulameron_view.specs.declared.json.Leaf.{Leaf}
+use Rattle.wulameron_view.specs.declared.json.Leaf.TheVariants as leaf
 use Rattle.wulameron_view.specs.declared.services.Member.{Member}
 use Rattle.wulameron_view.specs.declared.services.Service.{Service}
 use Rattle.wulameron_view.specs.declared.services.Creation.{Creation}
@@ -38,6 +42,20 @@ count_or_null (Some n) = count n
 
 abbrev pub array_of : {A : Type 0} → (A → Data) → List A → Data
 array_of data_of xs = array (items_of (map data_of xs))
+
+-- a value that holds no other one
+abbrev pub leaf_data : Leaf → Data
+leaf_data leaf.Null = null
+leaf_data (leaf.Truth b) = boolean b
+leaf_data (leaf.Number n) = count n
+leaf_data (leaf.Hash h) = string (encode_lower h.0)
+leaf_data (leaf.Word t) = string t.now
+leaf_data (leaf.Text t) = string t.now
+
+-- each under its key, beside what stands there
+abbrev pub with_leaves : List (Bor (List ℕ) × Leaf) → Members → Members
+with_leaves [] ms = ms
+with_leaves (l ∷ rest) ms = with_leaves rest (put l.0.now (leaf_data l.1) ms)
 
 -- ---- who is in a service
 
@@ -66,6 +84,17 @@ pattern_word (pattern.Event s) = codes "event"
 pattern_word (pattern.PublishSubscribe s) = codes "publish_subscribe"
 pattern_word (pattern.RequestResponse s) = codes "request_response"
 
+-- all but the nodes
+abbrev pub service_facts : Service → Members
+service_facts s =
+    member (codes "creator") (count_or_null s.description.creator)
+    (member (codes "hash") (string (encode_lower s.hash.0))
+    (member (codes "max_nodes") (count s.max_nodes)
+    (member (codes "name") (string s.description.name)
+    (member (codes "number") (count s.number)
+    (member (codes "pattern") (string (pattern_word s.description.pattern))
+    (member (codes "state") (string (codes "published")) no_members))))))
+
 abbrev pub service_data : List NodeStatus → Service → Data
 service_data states s = object (
     member (codes "creator") (count_or_null s.description.creator)
@@ -77,7 +106,17 @@ service_data states s = object (
     (member (codes "pattern") (string (pattern_word s.description.pattern))
     (member (codes "state") (string (codes "published")) no_members))))))))
 
--- neither name nor pattern nor room is known
+-- neither name nor pattern nor room is known; all but the nodes
+abbrev pub creation_facts : Creation → Members
+creation_facts c =
+    member (codes "creator") (count_or_null c.node)
+    (member (codes "hash") (string (encode_lower c.hash.0))
+    (member (codes "max_nodes") null
+    (member (codes "name") null
+    (member (codes "number") (count c.number)
+    (member (codes "pattern") null
+    (member (codes "state") (string (codes "being_created")) no_members))))))
+
 abbrev pub creation_data : Creation → Data
 creation_data c = object (
     member (codes "creator") (count_or_null c.node)
@@ -139,14 +178,21 @@ message_data m = object (
     (member (codes "payload") (detail_data m.payload)
     (member (codes "user_header") (detail_data m.user_header) no_members)))
 
+-- what publishers send
+abbrev pub sample_types : Message → Data
+sample_types m = object (member (codes "message") (message_data m) no_members)
+
+-- what clients and servers send
+abbrev pub request_types : RequestSettings → Data
+request_types s = object (
+    member (codes "request") (message_data s.request_message_type_details)
+    (member (codes "response") (message_data s.response_message_type_details) no_members))
+
 -- by what is sent; a service of events has no types
 abbrev pub types_data : MessagingPattern → Data
 types_data (pattern.Event s) = object no_members
-types_data (pattern.PublishSubscribe s) = object (
-    member (codes "message") (message_data s.message_type_details) no_members)
-types_data (pattern.RequestResponse s) = object (
-    member (codes "request") (message_data s.request_message_type_details)
-    (member (codes "response") (message_data s.response_message_type_details) no_members))
+types_data (pattern.PublishSubscribe s) = sample_types s.message_type_details
+types_data (pattern.RequestResponse s) = request_types s
 
 abbrev pub attribute_data : Pair → Data
 attribute_data p = object (

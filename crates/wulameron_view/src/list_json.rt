@@ -1,14 +1,15 @@
 //! The services of a world as JSON.
 
 ghost use Rattle.std.specs.Prelude.{◌≡◌, ◌++◌, IfOk, OnOk, map, string_bytes};
-ghost use Rattle.serde_json.specs.View.{view};
+ghost use Rattle.serde_json.specs.View.{members_view, view};
 ghost use Rattle.std.specs.List.{flat_map};
-ghost use Rattle.wulameron_view.specs.Data.{creation_data, json_line, list_data, list_lines, service_data};
+ghost use Rattle.wulameron_view.specs.Data.{creation_data, creation_facts, json_line, list_data, list_lines};
+ghost use Rattle.wulameron_view.specs.Data.{service_data};
 
-use crate::json::{count_value, service_value, write_value};
+use crate::json::{Leaf, count_or_null, leaves, service_value, write_value};
 use crate::services::{Creation, Service, Services};
 use iceoryx2_monitoring::state::NodeStatus;
-use serde_json::{Value, json};
+use serde_json::{Map, Value, put};
 use std::alloc::{AllocError, Global};
 
 /// Writes an array of the services, in the order of the table, as one line without a space; docs/CLI.md has the keys.
@@ -135,16 +136,25 @@ fn add_creations(
 fn creation_value(alloc: Global, creation: &Creation) -> Result<Value, AllocError>
     ensures { IfOk result (λ v. view v ≡ creation_data creation.now) }
 {
-    let creator = count_value(creation.node);
-    let hash = creation.hash.to_text(alloc)?;
-    json!(in alloc; {
-        "creator": creator,
-        "hash": hash.as_str(),
-        "max_nodes": null,
-        "name": null,
-        "nodes": [],
-        "number": creation.number,
-        "pattern": null,
-        "state": "being_created",
-    })
+    let mut members = creation_facts(alloc, creation)?;
+    put(&mut members, alloc, "nodes", Value::Array(Vec::new(alloc)))?;
+    Ok(Value::Object(members))
+}
+
+/// Returns what is known of a service that is being created, without the nodes that are in it: there are none.
+fn creation_facts(alloc: Global, creation: &Creation) -> Result<Map<String, Value>, AllocError>
+    ensures { IfOk result (λ m. members_view m.entries ≡ creation_facts creation.now) }
+{
+    leaves(
+        alloc,
+        &[
+            ("creator", count_or_null(creation.node)),
+            ("hash", Leaf::Hash(creation.hash)),
+            ("max_nodes", Leaf::Null),
+            ("name", Leaf::Null),
+            ("number", Leaf::Number(creation.number)),
+            ("pattern", Leaf::Null),
+            ("state", Leaf::Word("being_created")),
+        ],
+    )
 }

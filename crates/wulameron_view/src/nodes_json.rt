@@ -3,12 +3,12 @@
 ghost use Rattle.std.specs.Prelude.{◌≡◌, ◌++◌, IfOk, OnOk, map, string_bytes};
 ghost use Rattle.std.specs.List.{flat_map};
 ghost use Rattle.serde_json.specs.View.{view};
-ghost use Rattle.wulameron_view.specs.Data.{json_line};
+ghost use Rattle.wulameron_view.specs.Data.{json_line, leaf_data};
 ghost use Rattle.wulameron_view.specs.Nodes.{node_data, nodes_data, standing_alive, standing_data};
 
-use crate::json::write_value;
+use crate::json::{Leaf, leaves, write_value};
 use crate::states::{NodeStanding, Standing};
-use serde_json::{Value, json};
+use serde_json::Value;
 use std::alloc::{AllocError, Global};
 
 /// Writes an array of the nodes, in their order, as one line without a space; docs/CLI.md has the keys. `AllocError` if
@@ -54,19 +54,25 @@ fn write_node(node: NodeStanding, text: &mut String) -> Result<(), AllocError>
 fn node_value(alloc: Global, node: NodeStanding) -> Result<Value, AllocError>
     ensures { IfOk result (λ v. view v ≡ node_data node) }
 {
-    let alive = alive_value(node.standing);
-    let state = word_of(node.standing);
-    json!(in alloc; {"alive": alive, "node": node.node, "state": state})
+    let members = leaves(
+        alloc,
+        &[
+            ("alive", alive_or_null(node.standing)),
+            ("node", Leaf::Number(node.node)),
+            ("state", Leaf::Word(word_of(node.standing))),
+        ],
+    )?;
+    Ok(Value::Object(members))
 }
 
 /// Returns whether a node of this standing is alive, or `null` for a node that was never claimed.
-fn alive_value(standing: Standing) -> Value
-    ensures { view result ≡ standing_alive standing }
+fn alive_or_null<'a>(standing: Standing) -> Leaf<'a>
+    ensures { leaf_data result ≡ standing_alive standing }
 {
     match standing {
-        Standing::Alive => Value::Bool(true),
-        Standing::Dead | Standing::Ended => Value::Bool(false),
-        Standing::NeverClaimed => Value::Null,
+        Standing::Alive => Leaf::Truth(true),
+        Standing::Dead | Standing::Ended => Leaf::Truth(false),
+        Standing::NeverClaimed => Leaf::Null,
     }
 }
 

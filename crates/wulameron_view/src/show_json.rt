@@ -4,12 +4,12 @@ ghost use Rattle.std.specs.Prelude.{◌≡◌, ◌++◌, IfOk, OnOk, string_byte
 ghost use Rattle.serde_json.specs.Data.{no_members, object};
 ghost use Rattle.serde_json.specs.View.{view};
 ghost use Rattle.wulameron_view.specs.Data.{array_of, attribute_data, deadline_data, detail_data, json_line};
-ghost use Rattle.wulameron_view.specs.Data.{message_data, setting_data, show_data, span_data, types_data, value_data};
-ghost use Rattle.wulameron_view.specs.Data.{with_settings};
+ghost use Rattle.wulameron_view.specs.Data.{message_data, request_types, sample_types, setting_data, show_data};
+ghost use Rattle.wulameron_view.specs.Data.{span_data, types_data, value_data, with_settings};
 ghost use Rattle.wulameron_view.specs.Settings.{settings_of};
 ghost use Rattle.wulameron_view.specs.ShowTexts.{variant_text};
 
-use crate::json::{service_value, write_value};
+use crate::json::{Leaf, leaves, service_value, write_value};
 use crate::services::Service;
 use crate::settings::{
     self as agreed, Setting, of_events, of_publish_subscribe, of_request_response,
@@ -17,10 +17,11 @@ use crate::settings::{
 use iceoryx2_attribute::attribute::Attribute;
 use iceoryx2_description::description::MessagingPattern;
 use iceoryx2_description::event::Deadline;
+use iceoryx2_description::request_response::StaticConfig;
 use iceoryx2_description::time::{Duration, Time};
 use iceoryx2_monitoring::state::NodeStatus;
 use iceoryx2_types::types::{MessageTypeDetails, TypeDetail, TypeVariant};
-use serde_json::{Map, Value, json, put};
+use serde_json::{Map, Value, put};
 use std::alloc::{AllocError, Global};
 
 /// Writes an object with what `show_text` writes, as one line without a space; docs/CLI.md has the keys. `AllocError`
@@ -42,16 +43,27 @@ fn show_value(alloc: Global, states: &[NodeStatus], service: &Service) -> Result
     ensures { IfOk result (λ v. view v ≡ show_data states.now service.now) }
 {
     let pattern = service.description.messaging_pattern();
-    let attributes = attributes_value(alloc, service.description.attributes().pairs())?;
-    let facts = service_value(alloc, states, service)?;
-    let settings = settings_value(alloc, pattern)?;
-    let types = types_value(alloc, pattern)?;
-    json!(in alloc; {
-        "attributes": attributes,
-        "service": facts,
-        "settings": settings,
-        "types": types,
-    })
+    let mut members = Map::new(alloc);
+    put(
+        &mut members,
+        alloc,
+        "attributes",
+        attributes_value(alloc, service.description.attributes().pairs())?,
+    )?;
+    put(
+        &mut members,
+        alloc,
+        "service",
+        service_value(alloc, states, service)?,
+    )?;
+    put(
+        &mut members,
+        alloc,
+        "settings",
+        settings_value(alloc, pattern)?,
+    )?;
+    put(&mut members, alloc, "types", types_value(alloc, pattern)?)?;
+    Ok(Value::Object(members))
 }
 
 /// Returns the attributes in order.
@@ -68,7 +80,14 @@ fn attributes_value(alloc: Global, pairs: &[Attribute]) -> Result<Value, AllocEr
 fn attribute_value(alloc: Global, pair: &Attribute) -> Result<Value, AllocError>
     ensures { IfOk result (λ v. view v ≡ attribute_data pair.now) }
 {
-    json!(in alloc; {"key": pair.key(), "value": pair.value()})
+    let members = leaves(
+        alloc,
+        &[
+            ("key", Leaf::Text(pair.key())),
+            ("value", Leaf::Text(pair.value())),
+        ],
+    )?;
+    Ok(Value::Object(members))
 }
 
 /// Returns the settings by their names.
@@ -105,9 +124,14 @@ fn settings_object(alloc: Global, settings: &[Setting]) -> Result<Value, AllocEr
 fn setting_value(alloc: Global, setting: &Setting) -> Result<Value, AllocError>
     ensures { IfOk result (λ v. view v ≡ setting_data setting.now) }
 {
-    let is_default = !setting.differs();
-    let value = agreed_value(alloc, setting.value())?;
-    json!(in alloc; {"is_default": is_default, "value": value})
+    let mut members = leaves(alloc, &[("is_default", Leaf::Truth(!setting.differs()))])?;
+    put(
+        &mut members,
+        alloc,
+        "value",
+        agreed_value(alloc, setting.value())?,
+    )?;
+    Ok(Value::Object(members))
 }
 
 /// Returns what was agreed.
@@ -126,21 +150,45 @@ fn agreed_value(alloc: Global, value: agreed::Value) -> Result<Value, AllocError
 fn deadline_value(alloc: Global, deadline: &Deadline) -> Result<Value, AllocError>
     ensures { IfOk result (λ v. view v ≡ deadline_data deadline.now) }
 {
-    let creation_time = time_value(alloc, &deadline.creation_time)?;
-    let length = duration_value(alloc, &deadline.value)?;
-    json!(in alloc; {"creation_time": creation_time, "length": length})
+    let mut members = Map::new(alloc);
+    put(
+        &mut members,
+        alloc,
+        "creation_time",
+        time_value(alloc, &deadline.creation_time)?,
+    )?;
+    put(
+        &mut members,
+        alloc,
+        "length",
+        duration_value(alloc, &deadline.value)?,
+    )?;
+    Ok(Value::Object(members))
 }
 
 fn duration_value(alloc: Global, length: &Duration) -> Result<Value, AllocError>
     ensures { IfOk result (λ v. view v ≡ span_data length.now) }
 {
-    json!(in alloc; {"nanoseconds": length.nanoseconds(), "seconds": length.seconds()})
+    span_value(alloc, length.seconds(), length.nanoseconds())
 }
 
 fn time_value(alloc: Global, time: &Time) -> Result<Value, AllocError>
     ensures { IfOk result (λ v. view v ≡ span_data time.now) }
 {
-    json!(in alloc; {"nanoseconds": time.nanoseconds(), "seconds": time.seconds()})
+    span_value(alloc, time.seconds(), time.nanoseconds())
+}
+
+fn span_value(alloc: Global, seconds: u64, nanoseconds: u32) -> Result<Value, AllocError>
+    ensures { IfOk result (λ v. view v ≡ span_data (record { seconds = seconds; nanoseconds = nanoseconds })) }
+{
+    let members = leaves(
+        alloc,
+        &[
+            ("nanoseconds", Leaf::Number(nanoseconds as u64)),
+            ("seconds", Leaf::Number(seconds)),
+        ],
+    )?;
+    Ok(Value::Object(members))
 }
 
 /// Returns the types by what is sent.
@@ -150,35 +198,84 @@ fn types_value(alloc: Global, pattern: &MessagingPattern) -> Result<Value, Alloc
     match pattern {
         MessagingPattern::Event(_) => Ok(Value::Object(Map::new(alloc))),
         MessagingPattern::PublishSubscribe(agreed) => {
-            let message = message_value(alloc, &agreed.message_type_details)?;
-            json!(in alloc; {"message": message})
+            sample_types(alloc, &agreed.message_type_details)
         }
-        MessagingPattern::RequestResponse(agreed) => {
-            let request = message_value(alloc, &agreed.request_message_type_details)?;
-            let response = message_value(alloc, &agreed.response_message_type_details)?;
-            json!(in alloc; {"request": request, "response": response})
-        }
+        MessagingPattern::RequestResponse(agreed) => request_types(alloc, agreed),
     }
+}
+
+/// Returns the type of what publishers send.
+fn sample_types(alloc: Global, message: &MessageTypeDetails) -> Result<Value, AllocError>
+    ensures { IfOk result (λ v. view v ≡ sample_types message.now) }
+{
+    let mut members = Map::new(alloc);
+    put(
+        &mut members,
+        alloc,
+        "message",
+        message_value(alloc, message)?,
+    )?;
+    Ok(Value::Object(members))
+}
+
+/// Returns the types of what clients and servers send.
+fn request_types(alloc: Global, agreed: &StaticConfig) -> Result<Value, AllocError>
+    ensures { IfOk result (λ v. view v ≡ request_types agreed.now) }
+{
+    let mut members = Map::new(alloc);
+    put(
+        &mut members,
+        alloc,
+        "request",
+        message_value(alloc, &agreed.request_message_type_details)?,
+    )?;
+    put(
+        &mut members,
+        alloc,
+        "response",
+        message_value(alloc, &agreed.response_message_type_details)?,
+    )?;
+    Ok(Value::Object(members))
 }
 
 fn message_value(alloc: Global, message: &MessageTypeDetails) -> Result<Value, AllocError>
     ensures { IfOk result (λ v. view v ≡ message_data message.now) }
 {
-    let header = detail_value(alloc, &message.header)?;
-    let payload = detail_value(alloc, &message.payload)?;
-    let user_header = detail_value(alloc, &message.user_header)?;
-    json!(in alloc; {"header": header, "payload": payload, "user_header": user_header})
+    let mut members = Map::new(alloc);
+    put(
+        &mut members,
+        alloc,
+        "header",
+        detail_value(alloc, &message.header)?,
+    )?;
+    put(
+        &mut members,
+        alloc,
+        "payload",
+        detail_value(alloc, &message.payload)?,
+    )?;
+    put(
+        &mut members,
+        alloc,
+        "user_header",
+        detail_value(alloc, &message.user_header)?,
+    )?;
+    Ok(Value::Object(members))
 }
 
 fn detail_value(alloc: Global, detail: &TypeDetail) -> Result<Value, AllocError>
     ensures { IfOk result (λ v. view v ≡ detail_data detail.now) }
 {
-    json!(in alloc; {
-        "alignment": detail.alignment(),
-        "kind": kind_of(detail.variant()),
-        "name": detail.type_name(),
-        "size": detail.size(),
-    })
+    let members = leaves(
+        alloc,
+        &[
+            ("alignment", Leaf::Number(detail.alignment() as u64)),
+            ("kind", Leaf::Word(kind_of(detail.variant()))),
+            ("name", Leaf::Text(detail.type_name())),
+            ("size", Leaf::Number(detail.size() as u64)),
+        ],
+    )?;
+    Ok(Value::Object(members))
 }
 
 /// Returns the word for one value, or for a number of them.
