@@ -16,7 +16,7 @@ use std::random::RandomSource;
 use std::rt::Files;
 use std::time::Clock;
 use wulameron_arguments::asked::{self, Listed, Place, Show, Shown, Wanted};
-use wulameron_place::opening::{open_view, states};
+use wulameron_place::opening::{OpenLog, opened_view, states};
 use wulameron_place::reports::Reports;
 use wulameron_place::trouble::{Refusing, Trouble, Troubled};
 
@@ -41,30 +41,46 @@ fn look_at<F: Files<File = File> + Clock + RandomSource + AllocGlobal, W: Write,
     errors: &mut E,
 ) -> u8 {
     let mut reports = Reports::new(rt.alloc(), place.at, errors);
-    match open_view(rt, place, &mut reports) {
-        Some(journal) => look_over(rt, (place, look), journal, output, &mut reports),
+    match opened_view(rt, place) {
+        Ok(open) => look_over(rt, (place, look), open, output, &mut reports),
+        Err(trouble) => {
+            let _ = reports.tell_unopened(trouble);
+            FAULT
+        }
+    }
+}
+
+/// Prints what is looked up at an open log, with the states of the place's nodes. Returns the status.
+fn look_over<F: Files<File = File> + AllocGlobal, L: Refusing + Drop, W: Write, E: Write>(
+    rt: &F,
+    (place, look): (Place<'_>, Lookup<'_>),
+    open: OpenLog<L>,
+    output: &mut W,
+    reports: &mut Reports<'_, E>,
+) -> u8 {
+    match states(rt, place, reports) {
+        Some(found) => look_with(look, &found, open, output, reports),
         None => FAULT,
     }
 }
 
-/// Prints what is looked up at the log of a journal, with the states of the place's nodes. Returns the status.
-fn look_over<F: Files<File = File> + AllocGlobal, L: Refusing + Drop, W: Write, E: Write>(
-    rt: &F,
-    (place, look): (Place<'_>, Lookup<'_>),
-    journal: Journal<L>,
+/// Prints what is looked up at an open log. These are the known states of nodes. Returns the status.
+fn look_with<L: Refusing + Drop, W: Write, E: Write>(
+    look: Lookup<'_>,
+    states: &[NodeStatus],
+    open: OpenLog<L>,
     output: &mut W,
     reports: &mut Reports<'_, E>,
 ) -> u8 {
-    let Some(found) = states(rt, place, reports) else {
-        return FAULT;
-    };
-    let mut journal = journal;
+    let alloc = reports.alloc();
+    let OpenLog { log, counter } = open;
+    let mut journal = Journal::starting_at(alloc, log, Vec::new(alloc), counter);
     match look {
-        Lookup::List(listed) => list_over(&mut journal, &found, listed, output, reports),
+        Lookup::List(listed) => list_over(&mut journal, states, listed, output, reports),
         Lookup::Show(wanted, shown) => {
-            show_over(&mut journal, &found, wanted, shown, output, reports)
+            show_over(&mut journal, states, wanted, shown, output, reports)
         }
-        Lookup::Nodes(shown) => nodes_over(&mut journal, &found, shown, output, reports),
+        Lookup::Nodes(shown) => nodes_over(&mut journal, states, shown, output, reports),
     }
 }
 
