@@ -6,6 +6,8 @@ use Rattle.negotiate_lines.specs.declared.vocabulary.Kind.{Kind}
 use Rattle.negotiate_lines.specs.declared.vocabulary.Kind.TheVariants as kind
 use Rattle.negotiate_lines.specs.declared.line_error.LineError.{LineError}
 use Rattle.negotiate_lines.specs.declared.line_error.LineError.TheVariants as wrong
+use Rattle.negotiate_lines.specs.declared.wrong_text.Reason.{Reason}
+use Rattle.negotiate_lines.specs.declared.wrong_text.Reason.TheVariants as reason
 use Rattle.negotiate_lines.specs.Escapes.{shown}
 use Rattle.negotiate_lines.specs.Nearest.{Suggests}
 use Rattle.negotiate_lines.specs.Wrongs.{command_words}
@@ -51,6 +53,22 @@ reason_text (wrong.ValueLength value) = codes "value " ++ (shown value.now ++ co
 reason_text (wrong.TooManyPairs key value) =
     codes "attribute=" ++ (shown key.now ++ (codes ":" ++ (shown value.now ++ codes ": at most 64 different pairs")))
 reason_text (wrong.TooManyKeys key) = codes "require_key=" ++ (shown key.now ++ codes ": at most 64 different keys")
+
+-- ---- forms of these texts
+
+-- of a value that its setting doesn't take
+abbrev pub value_text : (name value : List ℕ) → Kind → List ℕ
+value_text name value kind =
+    shown name ++ (codes "=" ++ (shown value ++ (codes ": " ++ (shown name ++ (codes " is " ++ kind_text kind)))))
+
+abbrev pub text_of : Reason → List ℕ
+text_of (reason.Text text) = text.now
+text_of (reason.OfPattern before pattern) = before.now ++ pattern.now
+text_of (reason.Word before word behind) = before.now ++ (shown word.now ++ behind.now)
+text_of (reason.WordOfPattern word behind pattern) = shown word.now ++ (behind.now ++ pattern.now)
+text_of (reason.Words before first between second behind) =
+    before.now ++ (shown first.now ++ (between.now ++ (shown second.now ++ behind.now)))
+text_of (reason.Value name value kind) = value_text name.now value.now kind
 
 -- ---- hints
 

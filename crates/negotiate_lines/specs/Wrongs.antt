@@ -24,7 +24,6 @@ use Rattle.negotiate_lines.specs.declared.line_error.LineError.{LineError}
 use Rattle.negotiate_lines.specs.declared.line_error.LineError.TheVariants as wrong
 use Rattle.negotiate_lines.specs.SettingTerms.{event_vocabulary, publish_subscribe_vocabulary}
 use Rattle.negotiate_lines.specs.SettingTerms.{request_response_vocabulary}
-use Rattle.negotiate_lines.specs.Leaves.{IsLeaf}
 use Rattle.negotiate_lines.specs.Terms.{AreAround, IsNumber, terms_of}
 use Rattle.negotiate_lines.specs.Values.{IsClockTerm, IsNatural}
 use Rattle.negotiate_lines.specs.Vocabulary.{Vocabulary, Takes, Sets, kind_of, kinds_of, row_of, common_rows, table_of}
