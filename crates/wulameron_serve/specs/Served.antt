@@ -70,6 +70,23 @@ pub record EndsSettled {S : Type 0} (settles : S → S → Type 0) (is_settled :
   pub rest : IfOk ended (λ ending. is_settled last node [])
   pub ends : (ended ≡ served) ⊎ (ended ≡ Err halt.Owing)
 
+module _ {S : Type 0} (settles shows spans : S → S → Type 0) (step : S → Letter → S → Type 0) (world : S → World)
+    (trouble : S → Option Trouble) (writes : Writing S) (ending : List ℕ) (node : ℕ) (w : WrongLines)
+    (is_settled : S → ℕ → List ℕ → Type 0) (storage : S) where
+  -- Over the storage of a node that is started, what dead nodes have is given back, and then it serves.
+  pub record CleansAndServes (ended : Result Ending Halt) (input : List ℕ) (old new : Option (List ℕ)) : Type 0 where
+    pub first : SessionOver S
+    pub cleaned : SpansSession shows (fresh_session storage) first
+    pub served : Result Ending Halt
+    pub left : S
+    pub settles_last : EndsSettled settles is_settled node left served ended
+    pub serves : Serves settles shows spans step world trouble writes ending node w first served left input old new
+
+  -- It serves so; or it ends by the log, and nothing is written.
+  pub data ServesStarted (ended : Result Ending Halt) (input : List ℕ) (old new : Option (List ℕ)) : Type 0 where
+    serving : CleansAndServes ended input old new → ServesStarted ended input old new
+    not_serving : IsErrAnd ended (λ h. is_of_start h ≡ true) → new ≡ old → ServesStarted ended input old new
+
 -- what goes wrong at a journal
 abbrev pub trouble_at : {L : Type 0} → (refused : L → Option Trouble) → JournalState L → Option Trouble
 trouble_at refused j = trouble_of j.is_over (refused j.log)

@@ -52,6 +52,7 @@ pub mod gone;
 pub mod hold;
 pub mod holding;
 pub mod lines;
+mod log_task;
 pub mod nodes;
 pub mod own_lines;
 pub mod refused;

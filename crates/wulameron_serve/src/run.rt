@@ -1,14 +1,16 @@
 //! The whole program: an input, and its answers, over the log of a place.
 
-ghost use Rattle.std.specs.Prelude.{◌≡◌, ℕ, List, Some};
+ghost use Rattle.std.specs.Prelude.{◌≡◌, ℕ, List, Some, true};
+ghost use Rattle.iceoryx2_world.specs.Agreement.{Agrees};
 ghost use Rattle.iceoryx2_session.specs.SessionStates.{own_state};
 ghost use Rattle.wulameron_place.specs.Troubles.{or_gone};
 ghost use Rattle.wulameron_serve.specs.Lines.{IsUsable, status_with, wrong_lines_of};
-ghost use Rattle.wulameron_serve.specs.Served.{EndsSettled, Serves, ServesLog};
+ghost use Rattle.wulameron_serve.specs.Served.{EndsSettled, Serves, ServesLog, ServesStarted};
 ghost use Rattle.wulameron_serve.specs.Shared.{StandsFor};
 
 use crate::answerer::NodeAnswerer;
 use crate::lines::answer_until;
+use crate::log_task::{LogTask, with_log};
 use crate::own_lines::{OwnLines, told_end};
 use crate::view::Viewed;
 use explain_serve::explainer::with_room;
@@ -25,9 +27,9 @@ use wulameron_arguments::asked::Run;
 use wulameron_place::dead::{DeadNodes, PlaceNodes};
 use wulameron_place::halt::Halt;
 use wulameron_place::node_log::NodeLog;
-use wulameron_place::opening::{claim, open};
+use wulameron_place::opening::claim;
 use wulameron_place::reports::Reports;
-use wulameron_place::trouble::{Refusing, Troubled};
+use wulameron_place::trouble::{Refusing, Trouble, Troubled};
 
 /// Answers the lines of an input over the log of a place, and makes the log if there is none. It claims the node as
 /// long as it runs.
@@ -41,7 +43,7 @@ pub fn run<
     E: Write,
 >(rt: F, run: &Run<'_>, input: R, output: &mut W, errors: &mut E) -> u8 {
     let place = run.place;
-    let mut reports = Reports::new(rt.alloc(), place.at, errors);
+    let mut reports = Reports::new(rt.alloc(), place.at, &mut *errors);
     let Some(claim) = claim(&rt, place, run.node, &mut reports) else {
         return FAULT;
     };
@@ -49,39 +51,52 @@ pub fn run<
     if run.node.is_none() {
         let _ = tell_node(node, &mut reports);
     }
-    let status = match open(&rt, place, &mut reports) {
-        None => FAULT,
-        Some(log) => {
-            let dead = PlaceNodes {
-                rt: &rt,
-                place,
-                cleans: run.cleans,
-            };
-            answer_over(log.for_node(node), dead, run, input, output, &mut reports)
-        }
+    let dead = PlaceNodes {
+        rt: &rt,
+        place,
+        cleans: run.cleans,
     };
+    let task = Answering {
+        dead,
+        run,
+        input,
+        output: &mut *output,
+        reports: &mut reports,
+    };
+    let status = with_log(&rt, place, node, task);
     drop(claim);
     status
 }
 
-/// Answers the lines of an input for a node over its log, and returns the status. It tells what goes wrong.
-fn answer_over<
-    L: Refusing + Renewing + SpansCalls + Drop,
-    D: DeadNodes + Drop,
-    R: Read + Drop,
-    W: Write,
-    E: Write,
->(
-    log: NodeLog<L>,
+/// Answers the lines of an input for a node over its log, and tells what goes wrong.
+#[derive(Drop)]
+struct Answering<'a, 'b, 'c, 'd, 'e, D, R, W, E> {
     dead: D,
-    run: &Run<'_>,
+    run: &'a Run<'b>,
     input: R,
-    output: &mut W,
-    reports: &mut Reports<'_, E>,
-) -> u8 {
-    let node = log.node;
-    let ended = start_and_answer(log, dead, run, input, output, reports);
-    report_end(told_end(reports.alloc(), node, ended), reports)
+    output: &'c mut W,
+    reports: &'d mut Reports<'e, E>,
+}
+
+impl<'a, 'b, 'c, 'd, 'e, D: DeadNodes + Drop, R: Read + Drop, W: Write, E: Write> LogTask
+    for Answering<'a, 'b, 'c, 'd, 'e, D, R, W, E> {
+    fn over<L: Refusing + Renewing + SpansCalls + Drop>(self, log: NodeLog<L>) -> u8 {
+        let Answering {
+            dead,
+            run,
+            input,
+            output,
+            reports,
+        } = self;
+        let node = log.node;
+        let ended = start_and_answer(log, dead, run, input, output, reports);
+        report_end(told_end(reports.alloc(), node, ended), reports)
+    }
+
+    fn refused(self, trouble: Trouble) -> u8 {
+        let _ = self.reports.tell(trouble);
+        FAULT
+    }
 }
 
 /// Tells which node was claimed.
@@ -148,16 +163,42 @@ fn start_and_answer<
     let node = log.node;
     let journal = log.start(alloc, reports)?;
     if !run.explains {
-        let answerer = NodeAnswerer::cleaned(node, journal, dead, reports)?;
-        let (served, journal) = answer_input(answerer, input, output, reports, wrong_lines);
-        return settle_end(node, served, journal, reports);
+        return answer_started(node, journal, dead, input, output, reports, wrong_lines);
     }
-    let Ok(traced) = with_room(alloc, journal) else {
-        return Err(Halt::Serving(ServeError::OutOfMemory));
-    };
-    let answerer = NodeAnswerer::cleaned(node, traced, dead, reports)?;
-    let (served, traced) = answer_input(answerer, input, output, reports, wrong_lines);
-    settle_end(node, served, traced, reports)
+    match with_room(alloc, journal) {
+        Ok(traced) => answer_started(node, traced, dead, input, output, reports, wrong_lines),
+        Err(_) => Err(Halt::Serving(ServeError::OutOfMemory)),
+    }
+}
+
+/// Releases what dead nodes have over the storage of a node that is started, and answers each line of an input for it.
+/// Then it closes all that is open, whatever ended the input, and releases what the node still has. It tells what goes
+/// wrong at the log.
+fn answer_started<
+    S: Viewed + Resuming + Troubled + Drop,
+    D: DeadNodes + Drop,
+    R: Read + Drop,
+    W: Write,
+    E: Write,
+>(
+    node: u64,
+    storage: S,
+    dead: D,
+    input: R,
+    output: &mut W,
+    reports: &mut Reports<'_, E>,
+    wrong_lines: WrongLines,
+) -> Result<Ending, Halt>
+    requires agrees { Agrees (S.world storage) }
+    requires of_own { S.own storage node ≡ true }
+    requires ready { S.ready storage }
+    ensures { (bytes : List ℕ) → R.remaining input ≡ Some bytes
+        → ServesStarted S.settles S.shows S.spans S.step S.world S.trouble S.writes S.ending node wrong_lines
+        S.is_settled storage result bytes (W.contents output.old) (W.contents output.new) }
+{
+    let answerer = NodeAnswerer::cleaned(node, storage, dead, reports)?;
+    let (served, storage) = answer_input(answerer, input, output, reports, wrong_lines);
+    settle_end(node, served, storage, reports)
 }
 
 /// Releases what the node still has after all was closed. It tells what goes wrong at the log.
