@@ -13,6 +13,7 @@ ghost use Rattle.wulameron_serve.specs.Telling.{IsTaken, greeting_of, told_or_no
 
 use crate::answerer::NodeAnswerer;
 use crate::lines::answer_until;
+use crate::log_task::{LogTask, with_log};
 use crate::nodes::SharedNodes;
 use crate::own_lines::OwnLines;
 use crate::run::{report_end, settle_end};
@@ -36,7 +37,6 @@ use wulameron_place::claims::claim_node;
 use wulameron_place::dead::PlaceNodes;
 use wulameron_place::halt::Halt;
 use wulameron_place::node_log::NodeLog;
-use wulameron_place::opening::{OpenLog, opened};
 use wulameron_place::reports::Reports;
 use wulameron_place::trouble::{Refusing, Trouble, Troubled};
 
@@ -122,21 +122,38 @@ fn run_as<F: Files<File = File> + Clock + RandomSource + AllocGlobal, R: Read + 
         place,
         cleans: run.cleans,
     };
-    run_over(rt.alloc(), node, opened(rt, place), dead, input, output)
+    let task = AnsweringEscaped {
+        alloc: rt.alloc(),
+        dead,
+        input,
+        output: &mut *output,
+    };
+    with_log(rt, place, node, task)
 }
 
-/// Answers the lines of an input over a log that was opened, or writes why it wasn't. Returns the status.
-fn run_over<L: Refusing + Renewing + Drop, D: SharedNodes + Drop, R: Read + Drop, W: Write>(
+/// Answers the lines of an input for a node over its log, or writes why the log can't be opened.
+#[derive(Drop)]
+struct AnsweringEscaped<'a, D, R, W> {
     alloc: Global,
-    node: u64,
-    opened: Result<OpenLog<L>, Trouble>,
     dead: D,
     input: R,
-    output: &mut W,
-) -> u8 {
-    match opened {
-        Ok(log) => start_and_greet(alloc, log.for_node(node), dead, input, output),
-        Err(trouble) => refuse_log(alloc, trouble, output),
+    output: &'a mut W,
+}
+
+impl<'a, D: SharedNodes + Drop, R: Read + Drop, W: Write> LogTask
+    for AnsweringEscaped<'a, D, R, W> {
+    fn over<L: Refusing + Renewing + SpansCalls + Drop>(self, log: NodeLog<L>) -> u8 {
+        let AnsweringEscaped {
+            alloc,
+            dead,
+            input,
+            output,
+        } = self;
+        start_and_greet(alloc, log, dead, input, output)
+    }
+
+    fn refused(self, trouble: Trouble) -> u8 {
+        refuse_log(self.alloc, trouble, self.output)
     }
 }
 
