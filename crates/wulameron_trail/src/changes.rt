@@ -8,7 +8,8 @@ ghost use Rattle.wulameron_trail.specs.Changes.{IsChangeOf, IsPublishedIn, IsSta
 ghost use Rattle.wulameron_trail.specs.Changes.{change_in, change_line, json_line, with_entry, word_of};
 ghost use Rattle.wulameron_trail.specs.Changes.{happened as happened_spec};
 ghost use Rattle.wulameron_trail.specs.Changes.{change_data as data_of};
-ghost use Rattle.serde_json.specs.View.{view};
+ghost use Rattle.serde_json.specs.Data.{put as with_member, string};
+ghost use Rattle.serde_json.specs.View.{members_view, view};
 
 use crate::descriptions::read;
 use crate::entries::pattern_and_name;
@@ -17,7 +18,7 @@ use iceoryx2_log::entry::Entry;
 use iceoryx2_table::rows::{RowState, StoredRow};
 use iceoryx2_table::table::stored::StoredWorld;
 use iceoryx2_world::world::Phase;
-use serde_json::{Value, json};
+use serde_json::{Map, Value, put};
 use std::alloc::{AllocError, Global};
 use wulameron_view::list_text::term_of;
 
@@ -228,20 +229,42 @@ fn change_value(alloc: Global, change: &Change) -> Result<Value, AllocError>
     ensures { IfOk result (λ value. view value ≡ data_of change.now) }
 {
     let description = &change.published.description;
-    let hash = change.hash.to_text(alloc)?;
-    let name = description.name().as_str();
-    let pattern = term_of(description.messaging_pattern());
-    let what = word(change.happening);
-    let number = change.published.number;
-    let node = change.node;
-    json!(in alloc; {
-        "change": what,
-        "hash": &hash,
-        "name": name,
-        "node": node,
-        "number": number,
-        "pattern": pattern
-    })
+    let mut members = Map::new(alloc);
+    put_text(&mut members, alloc, "change", word(change.happening))?;
+    put(
+        &mut members,
+        alloc,
+        "hash",
+        Value::String(change.hash.to_text(alloc)?),
+    )?;
+    put_text(&mut members, alloc, "name", description.name().as_str())?;
+    put(&mut members, alloc, "node", Value::from(change.node))?;
+    put(
+        &mut members,
+        alloc,
+        "number",
+        Value::from(change.published.number),
+    )?;
+    put_text(
+        &mut members,
+        alloc,
+        "pattern",
+        term_of(description.messaging_pattern()),
+    )?;
+    Ok(Value::Object(members))
+}
+
+/// Puts a text under a key.
+fn put_text(
+    members: &mut Map<String, Value>,
+    alloc: Global,
+    key: &str,
+    text: &str,
+) -> Result<(), AllocError>
+    ensures { OnOk result (members_view members.new.entries
+        ≡ with_member key.now (string text.now) (members_view members.old.entries)) }
+{
+    put(members, alloc, key, Value::try_from_str(alloc, text)?)
 }
 
 /// Writes a change as a line for programs: an object of JSON whose keys are `change`, `hash`, `name`, `node`, `number`
