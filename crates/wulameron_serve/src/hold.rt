@@ -6,6 +6,7 @@ ghost use Rattle.wulameron_serve.specs.Holding.{end_status};
 use crate::answerer::{NodeAnswerer, call_of};
 use crate::dead::clean_dead;
 use crate::holding::{HoldError, call_line, hold_call, status_of_hold};
+use crate::log_task::{LogTask, with_log};
 use crate::refused::{Offer, offer_to, tell_refusal};
 use crate::view::Viewed;
 use iceoryx2_builder::command::Call;
@@ -35,7 +36,7 @@ use std::time::Clock;
 use wulameron_arguments::asked::Hold;
 use wulameron_place::dead::{DeadNodes, PlaceNodes};
 use wulameron_place::node_log::NodeLog;
-use wulameron_place::opening::{claim, open, states};
+use wulameron_place::opening::{claim, states};
 use wulameron_place::reports::{Reports, STAYS};
 use wulameron_place::trouble::{Refusing, Trouble, Troubled};
 use wulameron_view::viewing::report_look;
@@ -205,27 +206,76 @@ fn hold_as<
     let Some(call) = held_call(rt.alloc(), node, hold) else {
         return reports.fail(ServeError::OutOfMemory);
     };
-    let Some(log) = open(rt, place, reports) else {
-        return FAULT;
-    };
-    let Some(states) = states(rt, place, reports) else {
-        return FAULT;
-    };
-    let wanted = NodeCall {
-        node,
+    let task = HoldingCall {
+        rt,
+        dead: PlaceNodes::of(rt, place),
         hold,
         call,
-        states,
+        input,
+        output: &mut *output,
+        reports: &mut *reports,
     };
-    let dead = PlaceNodes::of(rt, place);
-    start_and_hold(log.for_node(node), wanted, dead, input, output, reports)
+    with_log(rt, place, node, task)
+}
+
+/// Makes a call for a node over its log, and holds its factory until an input ends. It tells what goes wrong.
+#[derive(Drop)]
+struct HoldingCall<'a, 'b, 'c, 'd, 'e, 'f, F, D, R, W, E> {
+    rt: &'a F,
+    dead: D,
+    hold: &'b Hold<'c>,
+    call: Call,
+    input: R,
+    output: &'d mut W,
+    reports: &'e mut Reports<'f, E>,
+}
+
+impl<
+    'a,
+    'b,
+    'c,
+    'd,
+    'e,
+    'f,
+    F: Files<File = File> + Clock + RandomSource + AllocGlobal,
+    D: DeadNodes + Drop,
+    R: Read + Drop,
+    W: Write,
+    E: Write,
+> LogTask for HoldingCall<'a, 'b, 'c, 'd, 'e, 'f, F, D, R, W, E> {
+    fn over<L: Refusing + Renewing + SpansCalls + Drop>(self, log: NodeLog<L>) -> u8 {
+        let HoldingCall {
+            rt,
+            dead,
+            hold,
+            call,
+            input,
+            output,
+            reports,
+        } = self;
+        let Some(states) = states(rt, hold.place, reports) else {
+            return FAULT;
+        };
+        let wanted = NodeCall {
+            node: log.node,
+            hold,
+            call,
+            states,
+        };
+        start_and_hold(log, wanted, dead, input, output, reports)
+    }
+
+    fn refused(self, trouble: Trouble) -> u8 {
+        let _ = self.reports.tell(trouble);
+        FAULT
+    }
 }
 
 /// A call for a node with its words, and the states of all nodes before it.
 #[derive(Drop)]
-struct NodeCall<'a> {
+struct NodeCall<'a, 'b> {
     node: u64,
-    hold: &'a Hold<'a>,
+    hold: &'a Hold<'b>,
     call: Call,
     states: Vec<NodeStatus>,
 }
@@ -239,7 +289,7 @@ fn start_and_hold<
     E: Write,
 >(
     log: NodeLog<L>,
-    wanted: NodeCall<'_>,
+    wanted: NodeCall<'_, '_>,
     dead: D,
     input: R,
     output: &mut W,
@@ -260,7 +310,7 @@ fn hold_over<
     E: Write,
 >(
     journal: Journal<L>,
-    wanted: NodeCall<'_>,
+    wanted: NodeCall<'_, '_>,
     dead: D,
     input: R,
     output: &mut W,
@@ -286,7 +336,7 @@ struct Ended {
 fn hold_wanted<L: SpansCalls, R: Read, W: Write>(
     alloc: Global,
     session: &mut Session<Journal<L>>,
-    wanted: NodeCall<'_>,
+    wanted: NodeCall<'_, '_>,
     input: &mut R,
     output: &mut W,
 ) -> Ended {
