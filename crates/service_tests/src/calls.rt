@@ -15,6 +15,26 @@ use std::process::Abort;
 use test_support::calls::{Called, Calls, plainly};
 use test_support::terms::write_factory;
 
+/// A service over a storage that a test makes. A function over any of these names few types, so it is proved in a part of
+/// the time that one over a table takes.
+pub trait Tried: Service {
+    /// Makes a storage in which nothing is.
+    fn new_storage(alloc: Global) -> Self::Storage;
+
+    /// Lets a storage go.
+    fn drop_storage(storage: Self::Storage);
+}
+
+impl Tried for Local {
+    fn new_storage(alloc: Global) -> Table {
+        Table::new(alloc)
+    }
+
+    fn drop_storage(storage: Table) {
+        drop_table(storage)
+    }
+}
+
 /// The builder of a node for a service, whose pattern is to be chosen.
 pub fn begun<S: Service>(rt: &impl Abort, alloc: Global, node: u64, text: &str) -> Builder<S> {
     let node = Node::<S>::new(node, Config::default());
@@ -35,14 +55,14 @@ pub fn answer_of(rt: &impl Abort, alloc: Global, called: Called) -> String {
     text
 }
 
-/// What a builder's call answers at a table, at time zero.
-pub fn answered<B: Calls<Local>>(
+/// What a builder's call answers at a storage, at time zero.
+pub fn answered<S: Service, B: Calls<S>>(
     rt: &impl Abort,
     alloc: Global,
     (builder, how): (B, How),
-    table: &mut Table,
+    storage: &mut S::Storage,
 ) -> String {
-    let called = builder.call(plainly(how), Ok(Time::default()), table);
+    let called = builder.call(plainly(how), Ok(Time::default()), storage);
     answer_of(rt, alloc, called)
 }
 

@@ -11,12 +11,11 @@ use iceoryx2_description::config::Config;
 use iceoryx2_description::time::{Duration, Time};
 use iceoryx2_rounds::port_factory::factory::{Kind, PortFactory};
 use iceoryx2_table::local::Local;
-use iceoryx2_table::table::Table;
 use iceoryx2_types::types::Alignment;
 use iceoryx2_types::types::TypeVariant::{Dynamic, FixedSize};
 use std::alloc::Global;
 use std::process::Abort;
-use test_support::calls::{Calls, messages, plainly, requests};
+use test_support::calls::{Calls, MessageBuilder, RequestBuilder, messages, plainly, requests};
 
 /// The number, the node and the creator of a factory, and whether it has the hash of its name behind this prefix.
 type Identity = (u64, u64, Option<u64>, bool);
@@ -34,23 +33,27 @@ fn identity<S: Service, K: Kind>(factory: PortFactory<S, K>, prefix: u8) -> Iden
     found
 }
 
+/// Those of the factories of two services that node 3 creates, and of one that node 4 opens.
+fn identities<S: Tried>(rt: &impl Abort, alloc: Global) -> [Identity; 3] {
+    let mut storage = S::new_storage(alloc);
+    let builder = messages::<S>(begun(rt, alloc, 3, "xample"));
+    let published = identity(granted(rt, builder.create(&mut storage)), b'p');
+    let builder = requests::<S>(begun(rt, alloc, 3, "oot"));
+    let requested = identity(granted(rt, builder.create(&mut storage)), b'r');
+    let builder = messages::<S>(begun(rt, alloc, 4, "xample"));
+    let opened = identity(granted(rt, builder.open(&mut storage)), b'p');
+    S::drop_storage(storage);
+    [published, requested, opened]
+}
+
 #[test]
 fn factories_tell_who_created_their_service(rt: HostRuntime) {
-    let alloc = rt.alloc();
-    let mut table = Table::new(alloc);
-    let builder = messages::<Local>(begun(&rt, alloc, 3, "xample"));
-    let published = identity(granted(&rt, builder.create(&mut table)), b'p');
-    let builder = requests::<Local>(begun(&rt, alloc, 3, "oot"));
-    let requested = identity(granted(&rt, builder.create(&mut table)), b'r');
-    let builder = messages::<Local>(begun(&rt, alloc, 4, "xample"));
-    let opened = identity(granted(&rt, builder.open(&mut table)), b'p');
-    drop_table(table);
     let wanted = [
         (0, 3, Some(3), true),
         (1, 3, Some(3), true),
         (0, 4, Some(3), true),
     ];
-    assert_same(&rt, [published, requested, opened], wanted);
+    assert_same(&rt, identities::<Local>(&rt, rt.alloc()), wanted);
 }
 
 /// A configuration for 5 nodes, with a deadline of 2 seconds and 5 nanoseconds, and three events.
@@ -73,24 +76,31 @@ const CONFIGURED: [&str; 3] = [
     "number=2 xample creator=3 max_nodes=6",
 ];
 
+/// What a node and a copy of its builder create, in each pattern.
+fn created_by_options<S: Tried>(rt: &impl Abort, alloc: Global) -> [String; 3] {
+    let node = Node::<S>::new(3, with_every_option());
+    assert_same(rt, (node.id(), *node.config()), (3, with_every_option()));
+    let builder = node.service_builder(name(rt, alloc, "xample"));
+    let published = messages::<S>(granted(rt, builder.clone()));
+    let requested = requests::<S>(granted(rt, builder.clone()));
+    let mut storage = S::new_storage(alloc);
+    let now = Ok(there(rt, Time::new(7, 9)));
+    let called = builder
+        .event()
+        .call(plainly(How::Create), now, &mut storage);
+    let answers = [
+        answer_of(rt, alloc, called),
+        answered::<S, _>(rt, alloc, (published, How::Create), &mut storage),
+        answered::<S, _>(rt, alloc, (requested, How::Create), &mut storage),
+    ];
+    S::drop_storage(storage);
+    answers
+}
+
 // A copy of its builder, whose pattern is chosen after the copy, has the same configuration.
 #[test]
 fn a_node_and_a_copy_of_its_builder_create_by_its_configuration(rt: HostRuntime) {
-    let alloc = rt.alloc();
-    let node = Node::<Local>::new(3, with_every_option());
-    assert_same(&rt, (node.id(), *node.config()), (3, with_every_option()));
-    let builder = node.service_builder(name(&rt, alloc, "xample"));
-    let published = messages::<Local>(granted(&rt, builder.clone()));
-    let requested = requests::<Local>(granted(&rt, builder.clone()));
-    let mut table = Table::new(alloc);
-    let now = Ok(there(&rt, Time::new(7, 9)));
-    let called = builder.event().call(plainly(How::Create), now, &mut table);
-    let answers = [
-        answer_of(&rt, alloc, called),
-        answered(&rt, alloc, (published, How::Create), &mut table),
-        answered(&rt, alloc, (requested, How::Create), &mut table),
-    ];
-    drop_table(table);
+    let answers = created_by_options::<Local>(&rt, rt.alloc());
     for (found, wanted) in answers.iter().zip(CONFIGURED) {
         assert_answer(&rt, found.as_str(), wanted);
     }
@@ -98,65 +108,82 @@ fn a_node_and_a_copy_of_its_builder_create_by_its_configuration(rt: HostRuntime)
 
 /// Ends a test where a builder creates something else than this, or its copy does over another table, or a second copy
 /// opens something else of the first.
-fn assert_copies<B: Calls<Local> + Clone>(
+fn assert_copies<S: Tried, B: Calls<S> + Clone>(
     rt: &impl Abort,
     alloc: Global,
     builder: B,
     wanted: &str,
 ) {
     let (first, second) = (granted(rt, builder.clone()), granted(rt, builder.clone()));
-    let (mut table, mut other) = (Table::new(alloc), Table::new(alloc));
+    let (mut storage, mut other) = (S::new_storage(alloc), S::new_storage(alloc));
     let answers = [
-        answered(rt, alloc, (builder, How::Create), &mut table),
-        answered(rt, alloc, (first, How::Create), &mut other),
-        answered(rt, alloc, (second, How::Open), &mut table),
+        answered::<S, _>(rt, alloc, (builder, How::Create), &mut storage),
+        answered::<S, _>(rt, alloc, (first, How::Create), &mut other),
+        answered::<S, _>(rt, alloc, (second, How::Open), &mut storage),
     ];
-    drop_table(table);
-    drop_table(other);
+    S::drop_storage(storage);
+    S::drop_storage(other);
     for found in &answers {
         assert_answer(rt, found.as_str(), wanted);
     }
 }
 
 /// A builder of events for five nodes.
-fn of_events(rt: &impl Abort, alloc: Global) -> event::Builder<Local> {
-    begun::<Local>(rt, alloc, 1, "a")
+fn of_events<S: Service>(rt: &impl Abort, alloc: Global) -> event::Builder<S> {
+    begun::<S>(rt, alloc, 1, "a")
         .event()
         .max_nodes(5)
         .notifier_dead_event(EventId::new(3))
 }
 
-#[test]
-fn a_copy_opens_what_its_source_created(rt: HostRuntime) {
-    let alloc = rt.alloc();
+/// One of publish-subscribe, with a type.
+fn of_messages<S: Service>(rt: &impl Abort, alloc: Global) -> MessageBuilder<S> {
+    messages::<S>(begun(rt, alloc, 1, "a"))
+        .max_nodes(5)
+        .internal_set_payload_type_details(detail(rt, alloc, (FixedSize, "Img", 24, 8)))
+        .payload_alignment(there(rt, Alignment::new(64)))
+}
+
+/// One of request-response, with two types.
+fn of_requests<S: Service>(rt: &impl Abort, alloc: Global) -> RequestBuilder<S> {
+    requests::<S>(begun(rt, alloc, 1, "a"))
+        .max_nodes(5)
+        .internal_set_request_payload_type_details(detail(rt, alloc, (FixedSize, "Img", 24, 8)))
+        .internal_set_response_payload_type_details(detail(rt, alloc, (Dynamic, "Img", 24, 8)))
+        .response_payload_alignment(there(rt, Alignment::new(64)))
+}
+
+/// Ends a test where a copy of a builder opens something else than its source created.
+fn assert_copies_open<S: Tried>(rt: &impl Abort, alloc: Global) {
     let wanted = "number=0 a creator=1 max_nodes=5 notifier_dead_event=3";
-    assert_copies(&rt, alloc, of_events(&rt, alloc), wanted);
-    let published = messages::<Local>(begun(&rt, alloc, 1, "a"))
-        .max_nodes(5)
-        .internal_set_payload_type_details(detail(&rt, alloc, (FixedSize, "Img", 24, 8)))
-        .payload_alignment(there(&rt, Alignment::new(64)));
+    assert_copies::<S, _>(rt, alloc, of_events::<S>(rt, alloc), wanted);
     let wanted = "number=0 a creator=1 max_nodes=5 payload=fixed,Img,24,64";
-    assert_copies(&rt, alloc, published, wanted);
-    let requested = requests::<Local>(begun(&rt, alloc, 1, "a"))
-        .max_nodes(5)
-        .internal_set_request_payload_type_details(detail(&rt, alloc, (FixedSize, "Img", 24, 8)))
-        .internal_set_response_payload_type_details(detail(&rt, alloc, (Dynamic, "Img", 24, 8)))
-        .response_payload_alignment(there(&rt, Alignment::new(64)));
+    assert_copies::<S, _>(rt, alloc, of_messages::<S>(rt, alloc), wanted);
     let wanted =
         "number=0 a creator=1 max_nodes=5 request_payload=fixed,Img,24,8 response_payload=dynamic,Img,24,64";
-    assert_copies(&rt, alloc, requested, wanted);
+    assert_copies::<S, _>(rt, alloc, of_requests::<S>(rt, alloc), wanted);
+}
+
+#[test]
+fn a_copy_opens_what_its_source_created(rt: HostRuntime) {
+    assert_copies_open::<Local>(&rt, rt.alloc());
+}
+
+/// What a copy of the builder of events is answered at a service for four nodes.
+fn refused_copy<S: Tried>(rt: &impl Abort, alloc: Global) -> String {
+    let copy = granted(rt, of_events::<S>(rt, alloc).clone());
+    let mut storage = S::new_storage(alloc);
+    let for_four = begun::<S>(rt, alloc, 1, "a").event().max_nodes(4);
+    let _created = answered::<S, _>(rt, alloc, (for_four, How::Create), &mut storage);
+    let found = answered::<S, _>(rt, alloc, (copy, How::Open), &mut storage);
+    S::drop_storage(storage);
+    found
 }
 
 #[test]
 fn a_copy_requires_what_its_source_requires(rt: HostRuntime) {
-    let alloc = rt.alloc();
-    let copy = granted(&rt, of_events(&rt, alloc).clone());
-    let mut table = Table::new(alloc);
-    let for_four = begun::<Local>(&rt, alloc, 1, "a").event().max_nodes(4);
-    let _created = answered(&rt, alloc, (for_four, How::Create), &mut table);
-    let found = answered(&rt, alloc, (copy, How::Open), &mut table);
-    drop_table(table);
     let wanted = "EventOpenError::DoesNotSupportRequestedAmountOfNodes";
+    let found = refused_copy::<Local>(&rt, rt.alloc());
     assert_answer(&rt, found.as_str(), wanted);
 }
 
