@@ -7,7 +7,9 @@ use crate::given::Given;
 use crate::left::{write_left, write_list, write_services};
 use crate::programs::{write_said, write_served};
 use crate::subject::Subject;
-use crate::values::{write_compatible, write_defined, write_hash, write_required, write_type};
+use crate::values::{
+    write_compatible, write_defined, write_hash, write_refusal, write_required, write_type,
+};
 use crate::words::{first_word, named, number};
 use crate::{accesses, starve};
 use iceoryx2_access::storage::{Service, Sha1Hasher, Storage};
@@ -67,9 +69,10 @@ enum Value {
     Require,
     Type,
     Compatible,
+    Refusal,
 }
 
-const QUESTIONS: [(&str, Question); 22] = [
+const QUESTIONS: [(&str, Question); 23] = [
     ("event", Question::Call),
     ("pubsub", Question::Call),
     ("rr", Question::Call),
@@ -92,6 +95,7 @@ const QUESTIONS: [(&str, Question); 22] = [
     ("require", Question::Value(Value::Require)),
     ("type", Question::Value(Value::Type)),
     ("compatible", Question::Value(Value::Compatible)),
+    ("refusal", Question::Value(Value::Refusal)),
 ];
 
 /// Writes the answer to a question that needs no storage.
@@ -117,6 +121,7 @@ fn answer_value(
         Value::Require => write_required(alloc, rest, text),
         Value::Type => write_type(alloc, rest, text),
         Value::Compatible => write_compatible(alloc, rest, text),
+        Value::Refusal => write_refusal(number(rest)?, text),
     }
 }
 

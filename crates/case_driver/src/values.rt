@@ -4,8 +4,10 @@ use crate::case_error::CaseError;
 use crate::known::hash_of;
 use crate::words::{first_word, named, number};
 use iceoryx2_attribute::attribute::{AttributeError, AttributeSpecifier, AttributeVerifier};
+use iceoryx2_builder::command::{Refusal, Reply};
 use iceoryx2_description::description::{ServiceName, ServiceNameError};
 use iceoryx2_types::types::{MessageTypeDetails, TypeDetail, TypeDetailError, TypeVariant};
+use negotiate_serve::reply::describe;
 use std::alloc::Global;
 use test_support::terms::variant_word;
 
@@ -21,6 +23,14 @@ fn name_of(error: AttributeError) -> &'static str {
         AttributeError::ValueLength => "ValueLength",
         AttributeError::TooMany => "TooMany",
         AttributeError::OutOfMemory => "OutOfMemory",
+    }
+}
+
+/// Writes the text of the refusal of this number, or `none`.
+pub fn write_refusal(number: u64, text: &mut String) -> Result<(), CaseError> {
+    match Refusal::from_number(number) {
+        Some(refusal) => Ok(describe(&Reply::Refused(refusal), 0, text)?),
+        None => Ok(text.push_str("none")?),
     }
 }
 
