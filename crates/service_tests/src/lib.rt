@@ -1,6 +1,6 @@
 //! Tests of services and of programs that no case can state, with values from outside the program.
 //!
-//! Each type's constants (`types`), builders with types that are compiled (`typed`), configurations of nodes, and copies
+//! What errors become of states and of other errors (`errors`). Each type's constants (`types`), builders with types that are compiled (`typed`), configurations of nodes, and copies
 //! of builders (`factories`). A session answers commands one by one as in one go, over a table, a traced one and any
 //! world, and makes the accesses of its calls alone (`sessions`). The paths by which users name what the layer has
 //! (`paths`).
@@ -16,6 +16,8 @@
 
 #[cfg(test)]
 mod calls;
+#[cfg(test)]
+mod errors;
 #[cfg(test)]
 mod factories;
 #[cfg(test)]

@@ -8,6 +8,7 @@ use iceoryx2_session::session::{Session, TableSession};
 use iceoryx2_session::world_storage::WorldStorage;
 use iceoryx2_table::table::Table;
 use iceoryx2_testing::traced::Traced;
+use iceoryx2_world::listing::Entry;
 use std::alloc::Global;
 use std::process::Abort;
 use test_support::lines::command_in;
@@ -149,4 +150,103 @@ fn accesses_of_commands(rt: &impl Abort, alloc: Global) -> Vec<u64> {
 fn a_session_makes_the_accesses_of_its_calls_alone(rt: HostRuntime) {
     let counts = accesses_of_commands(&rt, rt.alloc());
     assert_same(&rt, counts.as_slice(), &[6, 6, 10, 15, 17, 17, 17, 21, 1]);
+}
+
+/// How many slots a session has.
+const SLOTS: usize = 64;
+
+/// The command of a line.
+fn push_line(rt: &impl Abort, alloc: Global, commands: &mut Vec<Command>, line: &str) {
+    push(rt, commands, there(rt, command_in(alloc, line)));
+}
+
+/// Creates of a service in each slot by node 1, `s0` in slot 0, `s1` in slot 1, and so on.
+fn creates_in_all_slots(rt: &impl Abort, alloc: Global) -> Vec<Command> {
+    let mut commands = Vec::new(alloc);
+    for slot in 0..SLOTS {
+        let line = granted(rt, format!(in alloc; "event create 1 {slot} s{slot}"));
+        push_line(rt, alloc, &mut commands, line.as_str());
+    }
+    commands
+}
+
+/// These creates, then a close of a slot that isn't there and of each even slot, a create of `s0`, and a list.
+fn commands_of_all_slots(rt: &impl Abort, alloc: Global) -> Vec<Command> {
+    let mut commands = creates_in_all_slots(rt, alloc);
+    push(rt, &mut commands, Command::Close { slot: SLOTS });
+    for slot in (0..SLOTS).step_by(2) {
+        push(rt, &mut commands, Command::Close { slot });
+    }
+    push_line(rt, alloc, &mut commands, "event create 1 0 s0");
+    push(rt, &mut commands, Command::List);
+    commands
+}
+
+/// How many services are listed, and whether their hashes ascend.
+fn ascending(listing: &[Entry]) -> (usize, bool) {
+    let mut before = None;
+    let mut ascends = true;
+    for entry in listing {
+        ascends = ascends && before < Some(&entry.hash.0);
+        before = Some(&entry.hash.0);
+    }
+    (listing.len(), ascends)
+}
+
+/// What a session over a table answers to them in one go, and the table's next number.
+fn run_in_all_slots(rt: &impl Abort, alloc: Global) -> (Vec<Reply>, u64) {
+    let mut session = TableSession::new(Config::default(), Table::new(alloc));
+    let replies = granted(rt, session.run(commands_of_all_slots(rt, alloc)));
+    let table = session.finish();
+    let counter = table.counter();
+    drop_table(table);
+    (replies, counter)
+}
+
+#[test]
+fn a_session_fills_its_slots_and_lists_what_is_left(rt: HostRuntime) {
+    let (replies, counter) = run_in_all_slots(&rt, rt.alloc());
+    let [.., opened, Reply::Listing(listing)] = replies.as_slice() else {
+        panic!(&rt; "other replies");
+    };
+    assert_same(
+        &rt,
+        opened,
+        &Reply::Opened {
+            slot: 0,
+            number: 64,
+        },
+    );
+    assert_same(&rt, ascending(listing), (33, true));
+    assert_same(&rt, counter, 65);
+    assert_same(&rt, replies.get(SLOTS), Some(&Reply::NoSuchSlot));
+}
+
+/// Whether services that are created so are of the same pattern.
+fn are_of_one_pattern(rt: &impl Abort, alloc: Global, lines: [&str; 2]) -> bool {
+    let mut session = TableSession::new(Config::default(), Table::new(alloc));
+    for line in lines {
+        let _reply = session.apply(there(rt, command_in(alloc, line)));
+    }
+    let first = there(rt, session.registration(0))
+        .description()
+        .messaging_pattern();
+    let second = there(rt, session.registration(1))
+        .description()
+        .messaging_pattern();
+    let is_same = first.is_same_pattern(second) && second.is_same_pattern(first);
+    drop_table(session.finish());
+    is_same
+}
+
+#[test]
+fn patterns_are_the_same_whatever_their_settings(rt: HostRuntime) {
+    let (alloc, event) = (rt.alloc(), "event create 1 0 a event_id_max_value=3");
+    let other = "event create 1 1 b event_id_max_value=4";
+    assert_same(&rt, are_of_one_pattern(&rt, alloc, [event, other]), true);
+    assert_same(
+        &rt,
+        are_of_one_pattern(&rt, alloc, [event, "rr create 1 1 b"]),
+        false,
+    );
 }
