@@ -1,12 +1,12 @@
 //! A session answers commands one by one as in one go: over a table, over a traced one, and by what it asks of any world.
 
-use crate::support::{assert_same, drop_table, granted, push, there};
+use crate::support::{assert_same, drop_table, granted, hash_of, name, push, there};
 use iceoryx2_builder::command::{Command, Refusal, Reply};
 use iceoryx2_description::config::Config;
 use iceoryx2_errors::error::EventOpenError;
 use iceoryx2_session::session::{Session, TableSession};
 use iceoryx2_session::world_storage::WorldStorage;
-use iceoryx2_table::table::Table;
+use iceoryx2_table::table::{Act, Step, Table};
 use iceoryx2_testing::traced::Traced;
 use iceoryx2_world::listing::Entry;
 use std::alloc::Global;
@@ -249,4 +249,54 @@ fn patterns_are_the_same_whatever_their_settings(rt: HostRuntime) {
         are_of_one_pattern(&rt, alloc, [event, "rr create 1 1 b"]),
         false,
     );
+}
+
+/// Before how many accesses a peer acts. The calls below make fewer.
+const BATCHES: u64 = 300;
+
+/// A table in which a peer reads the service of events before each of so many accesses.
+fn watched_table(rt: &impl Abort, alloc: Global) -> Table {
+    let hash = hash_of(b'e', &name(rt, alloc, "a"));
+    let mut batches = Vec::new(alloc);
+    for _ in 0..BATCHES {
+        let (peer, act) = (7, Act::Read);
+        let mut batch = Vec::new(alloc);
+        push(rt, &mut batch, Step { peer, hash, act });
+        push(rt, &mut batches, batch);
+    }
+    let mut table = Table::new(alloc);
+    table.schedule(batches);
+    table
+}
+
+/// Calls in low and in high slots, and the number of the service that each opens. Each ticket of an open takes a number too.
+const WATCHED: [(&str, usize, u64); 9] = [
+    ("event create 1 0 a", 0, 0),
+    ("event open 2 63 a", 63, 0),
+    ("event open_or_create 3 31 a", 31, 0),
+    ("pubsub create 1 62 a", 62, 3),
+    ("pubsub open 2 1 a", 1, 3),
+    ("pubsub open_or_create 3 32 a", 32, 3),
+    ("rr create 1 2 a", 2, 6),
+    ("rr open 2 61 a", 61, 6),
+    ("rr open_or_create 3 33 a", 33, 6),
+];
+
+/// What a session answers to a line over a table.
+fn reply_at(rt: &impl Abort, alloc: Global, session: &mut TableSession, line: &str) -> Reply {
+    session.apply(there(rt, command_in(alloc, line)))
+}
+
+// A session may answer that memory is out only if a call needs room that there isn't, also while peers act.
+#[test]
+fn a_session_opens_each_pattern_while_peers_act(rt: HostRuntime) {
+    let alloc = rt.alloc();
+    let mut session = TableSession::new(Config::default(), watched_table(&rt, alloc));
+    for (line, slot, number) in WATCHED {
+        let reply = reply_at(&rt, alloc, &mut session, line);
+        assert_same(&rt, (line, reply), (line, Reply::Opened { slot, number }));
+    }
+    let table = session.finish();
+    assert_same(&rt, (table.pending() > 0, table.skipped()), (true, 0));
+    drop_table(table);
 }
