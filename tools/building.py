@@ -80,7 +80,7 @@ def check_sample(folder, program):
 
 
 def require_kit():
-    """Ends if the kit isn't the one that TOOLCHAIN names."""
+    """Ends if the kit isn't one that TOOLCHAIN lists."""
     if subprocess.run([TOP / "tools/check-toolchain"], check=False).returncode:
         sys.exit(1)
 
