@@ -4,7 +4,7 @@ import re
 
 TOP = pathlib.Path(__file__).resolve().parent.parent
 # The crates that users name.
-USERS = ("iceoryx2_service", "iceoryx2_data", "iceoryx2_rounds", "iceoryx2_builder")
+USERS = ("iceoryx2_service", "iceoryx2_data", "iceoryx2_storage", "iceoryx2_rounds", "iceoryx2_builder")
 USE = re.compile(r"^(pub )?use ([^;]*);", re.M)
 DECLARED = re.compile(r"^(pub )?(?:fn|struct|enum|trait|type|const|mod) (\w+)", re.M)
 BLOCK = re.compile(r"^(?:pub )?(?:fn|struct|enum|trait|type|const|impl)\b.*?(?=^[^\s>){}]|\Z)", re.M | re.S)

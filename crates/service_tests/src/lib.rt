@@ -29,6 +29,8 @@ mod paths;
 #[cfg(test)]
 mod sessions;
 #[cfg(test)]
+mod storage_paths;
+#[cfg(test)]
 mod support;
 #[cfg(test)]
 mod typed;
