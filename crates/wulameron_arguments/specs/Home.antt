@@ -1,5 +1,6 @@
 -- Where the log lies that no word names.
-use Rattle.std.specs.Prelude.{ℕ, List, ◌++◌, Option, Some, None, codes, decimal, option_map, string_bytes}
+use Rattle.std.specs.Prelude.{ℕ, Bool, true, false, List, ◌++◌, Option, Some, None, Result, Ok, Err, codes, decimal}
+use Rattle.std.specs.Prelude.{option_map, string_bytes}
 use Rattle.iceoryx2_file_log.specs.Errors.{fault_text}
 use Rattle.wulameron_arguments.specs.declared.home.FolderError.{FolderError}
 use Rattle.wulameron_arguments.specs.declared.home.FolderError.TheVariants as error
@@ -26,7 +27,17 @@ default_path s =
     (first_of (option_map (λ folder. log_in (string_bytes folder ++ codes "/wulameron")) s.runtime)
     (option_map (λ user. log_in (shared_memory_folder user)) s.user))
 
+-- the first that it lacks: a folder, of the user's own, that no other user can use
+abbrev pub own_folder_of : (is_folder is_own is_private : Bool) → Result (Unit {0}) FolderError
+own_folder_of false is_own is_private = Err error.NotAFolder
+own_folder_of true false is_private = Err error.OfAnotherUser
+own_folder_of true true false = Err error.Shared
+own_folder_of true true true = Ok tt
+
 abbrev pub folder_error_text : FolderError → List ℕ
-folder_error_text error.NotOwn =
+folder_error_text error.NotAFolder = codes "isn't a folder; remove it, or name a log by --at"
+folder_error_text error.OfAnotherUser =
+    codes "is a folder of another user; set XDG_RUNTIME_DIR to one of yours, or name a log by --at"
+folder_error_text error.Shared =
     codes "is a folder that other users can use; make it yours alone (chmod 700), or name a log by --at"
 folder_error_text (error.Refused f) = fault_text f ++ codes "; name a log with --at"

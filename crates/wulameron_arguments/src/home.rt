@@ -1,7 +1,7 @@
 //! Finds the log that no word names.
 
 ghost use Rattle.std.specs.Prelude.{◌≡◌, IfOk, None, bytes_eq, cond, option_map, string_bytes};
-ghost use Rattle.wulameron_arguments.specs.Home.{default_path, log_in};
+ghost use Rattle.wulameron_arguments.specs.Home.{default_path, log_in, own_folder_of};
 
 use iceoryx2_file_log::error::{FileFault, system_fault};
 use std::alloc::{AllocError, Global};
@@ -136,8 +136,12 @@ fn in_folder(alloc: Global, folder: String) -> Result<DefaultLog, AllocError>
 /// Why the folder of the log isn't used.
 #[derive(Clone, Copy)]
 pub enum FolderError {
-    /// Another user owns it or may change it, or it is no folder.
-    NotOwn,
+    /// It is no folder.
+    NotAFolder,
+    /// Another user owns it.
+    OfAnotherUser,
+    /// Other users can use it.
+    Shared,
     /// The system refused.
     Refused(FileFault),
 }
@@ -150,7 +154,15 @@ impl fmt::Display for FolderError {
 
     fn fmt<W: fmt::Write>(&self, f: &mut fmt::Formatter<W>) -> fmt::Result {
         match self {
-            FolderError::NotOwn => write!(
+            FolderError::NotAFolder => write!(
+                f,
+                "isn't a folder; remove it, or name a log by --at"
+            ),
+            FolderError::OfAnotherUser => write!(
+                f,
+                "is a folder of another user; set XDG_RUNTIME_DIR to one of yours, or name a log by --at"
+            ),
+            FolderError::Shared => write!(
                 f,
                 "is a folder that other users can use; make it yours alone (chmod 700), or name a log by --at"
             ),
@@ -162,7 +174,7 @@ impl fmt::Display for FolderError {
 /// Makes the folder of the log if there is none, for this user alone. A folder that is there has to be this user's
 /// alone.
 ///
-/// `NotOwn`, and `Refused` if the system refuses.
+/// `NotAFolder`, `OfAnotherUser` and `Shared` if it isn't, and `Refused` if the system refuses.
 pub fn make_folder<R: Files<File = File>>(rt: &R, folder: &str) -> Result<(), FolderError> {
     match DirBuilder::new().mode(0o700).create(rt, folder) {
         Ok(()) => Ok(()),
@@ -175,12 +187,27 @@ pub fn make_folder<R: Files<File = File>>(rt: &R, folder: &str) -> Result<(), Fo
 fn test_folder<R: Files<File = File>>(rt: &R, folder: &str) -> Result<(), FolderError> {
     match fs::symlink_metadata(rt, folder) {
         Ok(found) => {
+            let is_own = user(rt) == Some(found.uid());
             let is_private = found.permissions().mode() & 0o077 == 0;
-            if found.is_dir() && is_private && user(rt) == Some(found.uid()) {
-                return Ok(());
-            }
-            Err(FolderError::NotOwn)
+            own_folder(found.is_dir(), is_own, is_private)
         }
         Err(error) => Err(FolderError::Refused(system_fault(&error))),
     }
+}
+
+/// Returns what keeps something from being a folder of this user's alone, by whether it is a folder, this user's, and
+/// private.
+fn own_folder(is_folder: bool, is_own: bool, is_private: bool) -> Result<(), FolderError>
+    ensures { result ≡ own_folder_of is_folder is_own is_private }
+{
+    if !is_folder {
+        return Err(FolderError::NotAFolder);
+    }
+    if !is_own {
+        return Err(FolderError::OfAnotherUser);
+    }
+    if !is_private {
+        return Err(FolderError::Shared);
+    }
+    Ok(())
 }
