@@ -1,4 +1,3 @@
 pub mod JournalLives
 pub mod Rehearsals
 pub mod Rehearsing
-pub mod WrittenLines

@@ -1,7 +1,8 @@
 -- Which nodes are cleaned up for.
-use Rattle.std.specs.Prelude.{ℕ, List, ◌++◌, Option, Some, None, codes, decimal}
+use Rattle.std.specs.Prelude.{ℕ, List, [], ◌∷◌, ◌++◌, Option, Some, None, codes, decimal}
 use Rattle.iceoryx2_monitoring.specs.declared.state.NodeState.{NodeState}
 use Rattle.iceoryx2_monitoring.specs.declared.state.NodeState.TheVariants as state
+use Rattle.iceoryx2_monitoring.specs.declared.state.NodeStatus.{NodeStatus}
 use Rattle.wulameron_place.specs.declared.dead.NotDead.{NotDead}
 use Rattle.wulameron_place.specs.declared.dead.NotDead.TheVariants as not_dead
 use Rattle.iceoryx2_file_log.specs.declared.error.FileFault.{FileFault}
@@ -50,6 +51,14 @@ abbrev pub unclaimed_by : NodeError → Unclaimed
 unclaimed_by (error.File e) = unclaimed_in_file e.fault
 unclaimed_by (error.Database (node_fault.IsAlive node)) = unclaimed.IsAlive
 unclaimed_by (error.Database other) = unclaimed.Refused
+
+-- the number of a node of this state, where that is dead
+abbrev pub number_by : NodeState → ℕ → List ℕ
+number_by state.Dead node = node ∷ []
+number_by other node = []
+
+abbrev pub number_if_dead : NodeStatus → List ℕ
+number_if_dead s = number_by s.state s.node
 
 -- why a node of this state isn't cleaned up for
 abbrev pub not_dead_of : (node : ℕ) → NodeState → Option NotDead

@@ -16,7 +16,7 @@ use Rattle.iceoryx2_postgres_log.specs.Faults.{fault_text as database_text}
 use Rattle.negotiate_lines.specs.Escapes.{escaped}
 use Rattle.negotiate_serve.specs.declared.ending.ServeError.{ServeError}
 use Rattle.negotiate_serve.specs.declared.ending.ServeError.TheVariants as failure
-use Rattle.negotiate_serve.specs.Outputs.{IsFrontOf, Writes}
+use Rattle.negotiate_serve.specs.Outputs.{Writes}
 use Rattle.negotiate_serve.specs.Reports.{failure_line}
 use Rattle.wulameron_place.specs.declared.trouble.Trouble.{Trouble}
 use Rattle.wulameron_place.specs.declared.trouble.Trouble.TheVariants as trouble
@@ -155,12 +155,18 @@ unopened_text other = trouble_text other
 abbrev pub trouble_line : (path text : List ℕ) → List ℕ
 trouble_line path text = codes "wulameron: " ++ escaped path ++ codes ": " ++ text ++ codes "\n"
 
--- The line that there is no memory is written, as far as the writer takes it.
-abbrev pub WritesNoMemory : (old new : Option (List ℕ)) → Type 0
-WritesNoMemory old new =
-    (front : List ℕ) × IsFrontOf front (failure_line (codes "wulameron") failure.OutOfMemory) × Appends old new front
+-- the line that there is no memory
+abbrev pub no_memory_line : List ℕ
+no_memory_line = failure_line (codes "wulameron") failure.OutOfMemory
 
--- The line is written, as far as the writer takes it. If there was no memory for it, the line of that is written.
-abbrev pub WritesLine : (line : List ℕ) → Result (Unit {0}) ServeError → (old new : Option (List ℕ)) → Type 0
-WritesLine line (Err failure.OutOfMemory) old new = WritesNoMemory old new
-WritesLine line result old new = Writes line result old new
+-- The line that there is no memory is written whole, or the writer fails and has taken a front of it.
+pub data WritesNoMemory : ServeError → (old new : Option (List ℕ)) → Type 0 where
+  whole : {old new : Option (List ℕ)} → Appends old new no_memory_line → WritesNoMemory failure.OutOfMemory old new
+  failed : {f : ServeError} {old new : Option (List ℕ)} → Writes no_memory_line (Err f) old new → WritesNoMemory f old new
+
+-- The line is written, as far as the writer takes it. If there was no memory for it, the line of that is written so:
+-- memory is what is answered only after that line was written whole.
+pub data WritesLine (line : List ℕ) : Result (Unit {0}) ServeError → (old new : Option (List ℕ)) → Type 0 where
+  written : {result : Result (Unit {0}) ServeError} {old new : Option (List ℕ)} → Writes line result old new
+      → WritesLine line result old new
+  no_memory : {f : ServeError} {old new : Option (List ℕ)} → WritesNoMemory f old new → WritesLine line (Err f) old new

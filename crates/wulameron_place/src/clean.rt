@@ -7,11 +7,11 @@ ghost use Rattle.wulameron_place.specs.Clean.{AreWanted, ComesToWorld};
 
 use crate::claims::{NodeError, list, state_of};
 use crate::dead::{DeadNodes, NotDead, PlaceNodes, Unclaimed, dead_of, not_dead};
-use crate::opening::{OpenLog, open, open_view};
+use crate::opening::{OpenLog, open_existing, open_view};
 use crate::reading::take_over;
 use crate::reports::Reports;
 use crate::texts::{RehearsalError, describe_cleaned, gave_nothing, rehearse_nodes};
-use crate::trouble::Refusing;
+use crate::trouble::{Refusing, Troubled};
 use iceoryx2_journal::cleaning::{CleanError, Cleaned};
 use iceoryx2_journal::journal::Journal;
 use iceoryx2_log::call_log::{CallLog, SpansCalls};
@@ -19,6 +19,7 @@ use iceoryx2_table::table::stored::StoredWorld;
 use negotiate_serve::ending::{DONE, FAULT, ServeError};
 use negotiate_serve::output::write_out;
 use std::alloc::Global;
+use std::fmt;
 use std::fs::File;
 use std::io::Write;
 use std::random::RandomSource;
@@ -43,8 +44,8 @@ pub enum Unfound {
 }
 
 /// Releases what dead nodes have over the log of a place, of all or of the named one, with a line on the output for
-/// each node that had something. A dry run only writes what that would be, and appends nothing. The log has to be
-/// there.
+/// each node that had something. A dry run only writes what that would be: it opens the log only to read it. The log has
+/// to be there, and none is made.
 ///
 /// Returns the status with which the program ends: 0; 1 if the named node isn't dead; or 3 after a failure. With 1 or 3
 /// the writer of errors has a line.
@@ -55,17 +56,15 @@ pub fn clean<F: Files<File = File> + Clock + RandomSource + AllocGlobal, W: Writ
     errors: &mut E,
 ) -> u8 {
     let mut reports = Reports::new(rt.alloc(), asked.place.at, errors);
-    if open_view(rt, asked.place, &mut reports).is_none() {
-        return FAULT;
+    if asked.is_dry_run {
+        return match open_view(rt, asked.place, &mut reports) {
+            Some(journal) => rehearse_found(rt, asked, journal, output, &mut reports),
+            None => FAULT,
+        };
     }
-    match wanted_nodes(rt, asked.place, asked.node) {
-        Ok(nodes) => {
-            if asked.is_dry_run {
-                return rehearse_found(rt, asked, &nodes, output, &mut reports);
-            }
-            clean_found(rt, asked, &nodes, output, &mut reports)
-        }
-        Err(why) => end_unfound(&why, &mut reports),
+    match open_existing(rt, asked.place, &mut reports) {
+        Some(log) => clean_found(rt, asked, log, output, &mut reports),
+        None => FAULT,
     }
 }
 
@@ -82,7 +81,10 @@ pub fn wanted_nodes<F: Files<File = File> + AllocGlobal>(
     match named {
         Some(node) => named_node(rt, place, node),
         None => match list(rt, place) {
-            Ok(found) => Ok(dead_of(rt.alloc(), &found)),
+            Ok(found) => match dead_of(rt.alloc(), &found) {
+                Ok(dead) => Ok(dead),
+                Err(_) => Err(Unfound::OutOfMemory),
+            },
             Err(error) => Err(Unfound::Failed(error)),
         },
     }
@@ -125,19 +127,20 @@ fn end_unfound<E: Write>(why: &Unfound, reports: &mut Reports<'_, E>) -> u8 {
 
 // ---- what they have is released
 
-/// Releases what these nodes have.
-fn clean_found<F: Files<File = File> + Clock + RandomSource + AllocGlobal, W: Write, E: Write>(
-    rt: &F,
-    asked: &Clean<'_>,
-    nodes: &[u64],
-    output: &mut W,
-    reports: &mut Reports<'_, E>,
-) -> u8 {
-    let Some(log) = open(rt, asked.place, reports) else {
-        return FAULT;
-    };
-    let dead = PlaceNodes::of(rt, asked.place);
-    clean_over(log, &dead, (asked.node, nodes), output, reports)
+/// Finds the dead nodes, and releases what they have over an open log.
+fn clean_found<
+    F: Files<File = File> + Clock + RandomSource + AllocGlobal,
+    L: Refusing + Drop,
+    W: Write,
+    E: Write,
+>(rt: &F, asked: &Clean<'_>, log: OpenLog<L>, output: &mut W, reports: &mut Reports<'_, E>) -> u8 {
+    match wanted_nodes(rt, asked.place, asked.node) {
+        Ok(nodes) => {
+            let dead = PlaceNodes::of(rt, asked.place);
+            clean_over(log, &dead, (asked.node, &nodes), output, reports)
+        }
+        Err(why) => end_unfound(&why, reports),
+    }
 }
 
 /// Releases what these nodes have over an open log. `named` is the node that the user named, if any.
@@ -166,13 +169,35 @@ fn clean_over<L: Refusing + Drop, D: DeadNodes, W: Write, E: Write>(
 pub struct Spared {
     /// At least one is alive.
     pub some_alive: bool,
-    /// The log or a node's file refused for at least one.
-    pub some_refused: bool,
+    /// The last one for which the log or the node's claim refused.
+    pub refused: Option<u64>,
 }
 
-/// Returns the status after these were spared. It tells if a named node is alive.
+/// A node that wasn't cleaned up for, because the log or the node's claim refused.
+#[derive(Clone, Copy)]
+pub struct Uncleaned {
+    pub node: u64,
+}
+
+impl fmt::Display for Uncleaned {
+    ghost use Rattle.std.specs.Prelude.{Some};
+    ghost use Rattle.wulameron_place.specs.Clean.{uncleaned_text};
+
+    ghost output = { λ uncleaned. Some (uncleaned_text uncleaned.node) };
+
+    fn fmt<W: fmt::Write>(&self, f: &mut fmt::Formatter<W>) -> fmt::Result {
+        let node = self.node;
+        write!(
+            f,
+            "node {node} keeps what it has, as its claim or the log refused; run `wulameron clean` again"
+        )
+    }
+}
+
+/// Returns the status after these were spared. It tells which node keeps what it has, or that a named node is alive.
 fn end_clean<E: Write>(spared: Spared, named: Option<u64>, reports: &mut Reports<'_, E>) -> u8 {
-    if spared.some_refused {
+    if let Some(node) = spared.refused {
+        let _ = reports.tell(Uncleaned { node });
         return FAULT;
     }
     match named {
@@ -202,17 +227,17 @@ pub fn clean_nodes<L: Refusing + SpansCalls, D: DeadNodes, W: Write>(
     ensures nodes { journal.new.nodes ≡ journal.old.nodes }
 {
     let mut some_alive = false;
-    let mut some_refused = false;
+    let mut refused = None;
     for node in nodes {
         match clean_node(journal, dead, *node) {
             Found::Alive => some_alive = true,
             Found::Cleaned(cleaned) => write_cleaned(alloc, *node, cleaned, output)?,
-            Found::Refused => some_refused = true,
+            Found::Refused => refused = Some(*node),
         }
     }
     Ok(Spared {
         some_alive,
-        some_refused,
+        refused,
     })
 }
 
@@ -276,17 +301,17 @@ fn write_cleaned<W: Write>(
 
 // ---- what they have would be released
 
-/// Writes what would be released of what these nodes have.
-fn rehearse_found<F: Files<File = File> + Clock + RandomSource + AllocGlobal, W: Write, E: Write>(
+/// Finds the dead nodes, and writes what would be released of what they have.
+fn rehearse_found<F: Files<File = File> + AllocGlobal, L: Refusing + Drop, W: Write, E: Write>(
     rt: &F,
     asked: &Clean<'_>,
-    nodes: &[u64],
+    journal: Journal<L>,
     output: &mut W,
     reports: &mut Reports<'_, E>,
 ) -> u8 {
-    match open_view(rt, asked.place, reports) {
-        Some(journal) => rehearse_over(journal, nodes, output, reports),
-        None => FAULT,
+    match wanted_nodes(rt, asked.place, asked.node) {
+        Ok(nodes) => rehearse_over(journal, &nodes, output, reports),
+        Err(why) => end_unfound(&why, reports),
     }
 }
 
@@ -314,7 +339,7 @@ fn rehearse_over<L: Refusing + Drop, W: Write, E: Write>(
 }
 
 /// Returns the world that a journal's log comes to: all of it is taken over, and nothing appended. `None` if not all
-/// can be taken over, which is told.
+/// can be taken over, which is told: what goes wrong at the log, or that there was no memory.
 pub fn caught_up<L: Refusing + Drop, E: Write>(
     journal: Journal<L>,
     reports: &mut Reports<'_, E>,
@@ -324,8 +349,11 @@ pub fn caught_up<L: Refusing + Drop, E: Write>(
     let mut journal = journal;
     let is_all = take_over(&mut journal);
     let _ = reports.look(&journal);
-    if !is_all {
-        return None;
+    if is_all {
+        return Some(journal.into_world());
     }
-    Some(journal.into_world())
+    if journal.trouble().is_none() {
+        let _ = reports.fail(ServeError::OutOfMemory);
+    }
+    None
 }

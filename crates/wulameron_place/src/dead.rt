@@ -1,14 +1,15 @@
 //! Nodes whose processes are gone.
 
-ghost use Rattle.std.specs.Prelude.{◌≡◌};
-ghost use Rattle.wulameron_place.specs.Dead.{not_dead_of, unclaimed_by};
+ghost use Rattle.std.specs.Prelude.{◌≡◌, ◌++◌, IfOk, OnOk};
+ghost use Rattle.std.specs.List.{flat_map};
+ghost use Rattle.wulameron_place.specs.Dead.{not_dead_of, number_if_dead, unclaimed_by};
 
 use crate::claims::{
     Claim, NodeError, NodeFault, dead_lock, dead_token, give_lock_back, list, lock_again,
 };
 use iceoryx2_monitoring::error::MonitoringFault;
 use iceoryx2_monitoring::state::{NodeState, NodeStatus};
-use std::alloc::Global;
+use std::alloc::{AllocError, Global};
 use std::fmt;
 use std::fs::File;
 use std::random::RandomSource;
@@ -21,7 +22,7 @@ pub trait DeadNodes {
     /// What keeps others from claiming a node, until it is released.
     type Claim: Drop;
 
-    /// Returns nodes that were dead a moment ago. It leaves out those that can't be had.
+    /// Returns nodes that were dead a moment ago. None if they can't be had, or there is no memory.
     fn found(&self, alloc: Global) -> Vec<u64>;
 
     /// Claims a node, if it is still dead.
@@ -113,15 +114,28 @@ impl<'a, F> PlaceNodes<'a, F> {
     }
 }
 
-/// Returns the dead ones, as far as there is memory.
-pub fn dead_of(alloc: Global, nodes: &[NodeStatus]) -> Vec<u64> {
+/// Returns the dead ones, in their order. `AllocError` if there is no memory.
+pub fn dead_of(alloc: Global, nodes: &[NodeStatus]) -> Result<Vec<u64>, AllocError>
+    ensures { IfOk result (λ dead. dead.items ≡ flat_map number_if_dead nodes.now) }
+{
     let mut dead = Vec::new(alloc);
     for status in nodes {
-        if status.state == NodeState::Dead {
-            let _ = dead.push(status.node);
-        }
+        push_if_dead(*status, &mut dead)?;
     }
-    dead
+    Ok(dead)
+}
+
+/// Adds a node to these, if it is dead.
+fn push_if_dead(status: NodeStatus, dead: &mut Vec<u64>) -> Result<(), AllocError>
+    ensures { OnOk result (dead.new.items ≡ dead.old.items ++ number_if_dead status) }
+{
+    match status.state {
+        NodeState::Dead => {
+            dead.push(status.node)?;
+            Ok(())
+        }
+        _ => Ok(()),
+    }
 }
 
 impl<'a, F: Files<File = File> + Clock + RandomSource + AllocGlobal> DeadNodes
@@ -132,8 +146,11 @@ impl<'a, F: Files<File = File> + Clock + RandomSource + AllocGlobal> DeadNodes
         if !self.cleans {
             return Vec::new(alloc);
         }
-        match list(self.rt, self.place) {
-            Ok(nodes) => dead_of(alloc, &nodes),
+        let Ok(nodes) = list(self.rt, self.place) else {
+            return Vec::new(alloc);
+        };
+        match dead_of(alloc, &nodes) {
+            Ok(dead) => dead,
             Err(_) => Vec::new(alloc),
         }
     }

@@ -92,16 +92,16 @@ pub fn claim<F: Files<File = File> + Clock + RandomSource + AllocGlobal, E: Writ
     }
 }
 
-/// Opens the log, and makes it if there is none. `None` if it can't be had, which is told.
-pub fn open<'a, F: Files<File = File> + Clock + RandomSource + AllocGlobal, E: Write>(
+/// Opens the log, and makes none. `None` if there is no log, or it can't be had, which is told.
+pub fn open_existing<'a, F: Files<File = File> + Clock + RandomSource + AllocGlobal, E: Write>(
     rt: &'a F,
     place: Place<'a>,
     reports: &mut Reports<'_, E>,
 ) -> Option<OpenLog<LogAt<'a, F>>> {
-    match opened(rt, place) {
+    match opened_by(rt, place, Opening::Existing) {
         Ok(log) => Some(log),
         Err(trouble) => {
-            let _ = reports.tell(trouble);
+            let _ = reports.tell_unopened(trouble);
             None
         }
     }
@@ -112,25 +112,55 @@ pub fn opened<'a, F: Files<File = File> + Clock + RandomSource + AllocGlobal>(
     rt: &'a F,
     place: Place<'a>,
 ) -> Result<OpenLog<LogAt<'a, F>>, Trouble> {
-    match place.database() {
-        Some(database) => opened_database(rt.alloc(), place, database, true),
-        None => opened_file(rt, place, true),
+    opened_by(rt, place, Opening::Made)
+}
+
+/// How a log is opened.
+#[derive(Clone, Copy)]
+enum Opening {
+    /// It is made if there is none.
+    Made,
+    /// It has to be there.
+    Existing,
+    /// It has to be there, and is only read.
+    Read,
+}
+
+impl Opening {
+    /// Returns whether a log is made if there is none.
+    fn makes(self) -> bool {
+        match self {
+            Opening::Made => true,
+            _ => false,
+        }
     }
 }
 
-/// Opens the log in a file, only for reading unless it is made if there is none.
+/// Opens the log of a place. `Trouble` if it can't be had.
+fn opened_by<'a, F: Files<File = File> + Clock + RandomSource + AllocGlobal>(
+    rt: &'a F,
+    place: Place<'a>,
+    opening: Opening,
+) -> Result<OpenLog<LogAt<'a, F>>, Trouble> {
+    match place.database() {
+        Some(database) => opened_database(rt.alloc(), place, database, opening.makes()),
+        None => opened_file(rt, place, opening),
+    }
+}
+
+/// Opens the log in a file.
 fn opened_file<'a, F: Files<File = File> + Clock + RandomSource + AllocGlobal>(
     rt: &'a F,
     place: Place<'a>,
-    makes: bool,
+    opening: Opening,
 ) -> Result<OpenLog<LogAt<'a, F>>, Trouble> {
     let Ok(path) = format!(in rt.alloc(); "{}", place.at) else {
         return Err(Trouble::Refused(FileFault::OutOfMemory));
     };
-    let found = if makes {
-        FileLog::open(rt, path, place.options)
-    } else {
-        FileLog::open_to_read(rt, path, place.options)
+    let found = match opening {
+        Opening::Made => FileLog::open(rt, path, place.options),
+        Opening::Existing => FileLog::open_existing(rt, path, place.options),
+        Opening::Read => FileLog::open_to_read(rt, path, place.options),
     };
     match found {
         Ok(log) => {
@@ -192,10 +222,7 @@ pub fn opened_view<'a, F: Files<File = File> + Clock + RandomSource + AllocGloba
     rt: &'a F,
     place: Place<'a>,
 ) -> Result<OpenLog<LogAt<'a, F>>, Trouble> {
-    match place.database() {
-        Some(database) => opened_database(rt.alloc(), place, database, false),
-        None => opened_file(rt, place, false),
-    }
+    opened_by(rt, place, Opening::Read)
 }
 
 /// Returns the states of the nodes at the place. `None` if they can't be had, which is told.

@@ -53,8 +53,8 @@ impl<'a, E: Write> Reports<'a, E> {
 
     /// Writes the line of what is wrong with the log, or is wanted of it.
     ///
-    /// `ServeError` as `write_out` does. `OutOfMemory` if there is no memory for the line; then it writes the line of
-    /// that, which needs none.
+    /// `ServeError` as `write_out` does. If there is no memory for the line, it writes the line of that, which needs
+    /// none: `OutOfMemory` after it wrote that line whole, and otherwise the writer's failure.
     pub fn tell<D: fmt::Display + Copy>(&mut self, wrong: D) -> Result<(), ServeError>
         ensures { (text : List ℕ) → D.output wrong ≡ Some text
             → WritesLine (trouble_line self.old.path.now text) result
@@ -71,18 +71,19 @@ impl<'a, E: Write> Reports<'a, E> {
     {
         match line_of(self.alloc, path, wrong) {
             Ok(line) => write_out(line.as_bytes(), &mut self.errors),
-            Err(_) => {
-                self.tell_no_memory();
-                Err(ServeError::OutOfMemory)
-            }
+            Err(_) => Err(self.tell_no_memory()),
         }
     }
 
-    /// Writes the line that there is no memory. It leaves out what can't be written.
-    pub fn tell_no_memory(&mut self)
-        ensures { WritesNoMemory (E.contents self.old.errors) (E.contents self.new.errors) }
+    /// Writes the line that there is no memory. Returns `OutOfMemory` after it wrote the line whole, and otherwise the
+    /// writer's failure.
+    pub fn tell_no_memory(&mut self) -> ServeError
+        ensures { WritesNoMemory result (E.contents self.old.errors) (E.contents self.new.errors) }
     {
-        let _ = self.tell_failure(ServeError::OutOfMemory);
+        match self.tell_failure(ServeError::OutOfMemory) {
+            Ok(()) => ServeError::OutOfMemory,
+            Err(failure) => failure,
+        }
     }
 
     /// Writes the line of why the log isn't opened.
