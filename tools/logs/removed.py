@@ -1,6 +1,7 @@
 """A log that is removed or renamed while a process uses it: the process writes nothing more, and ends by name."""
 import subprocess
 
+from logs.commands import Command
 from logs.history import check_beside
 from logs.runs import FAULT, GONE, Living
 
@@ -99,10 +100,26 @@ def came_back(runs):
     check_beside(runs, path, what)
 
 
+def input_ends(runs):
+    """The input of a run and of a hold ends after their log was removed: each tells that, and nothing else."""
+    for name, words, line in (("run", [], f"event create {LOSER} 0 kept\n"), ("hold", ["event", "create", "kept"], "")):
+        path, what = runs.file("input-ends"), f"an end of {name} whose log was removed"
+        command = Command(runs, path, name, "--node", str(LOSER), *words)
+        command.process.stdin.write(line.encode())
+        command.process.stdin.flush()
+        command.line()
+        path.unlink()
+        status, _, err = command.end()
+        fine = status == FAULT and err == f"wulameron: {path}: {GONE}; start the program again\n"
+        runs.need(fine, f"{what}: it ended with {status}: {err}")
+
+
 def removed(runs):
-    """A log is removed or renamed, before each call, and with another one at its path or not; and one comes back."""
+    """A log is removed or renamed, before each call, and with another one at its path or not; one comes back; and the
+    input of a run and of a hold ends whose log is gone."""
     for kind in ("removed", "renamed"):
         for is_replaced in (False, True):
             for line in LINES if is_replaced else LINES[:1]:
                 taken(runs, kind, line, is_replaced)
     came_back(runs)
+    input_ends(runs)

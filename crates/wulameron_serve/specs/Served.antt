@@ -27,7 +27,7 @@ use Rattle.wulameron_place.specs.declared.halt.Halt.TheVariants as halt
 use Rattle.wulameron_place.specs.declared.trouble.Trouble.{Trouble}
 use Rattle.wulameron_place.specs.Halts.{is_of_start}
 use Rattle.wulameron_place.specs.Starting.{IsStarted}
-use Rattle.wulameron_place.specs.Troubles.{or_gone, trouble_of}
+use Rattle.wulameron_place.specs.Troubles.{last_of, or_gone, trouble_of}
 use Rattle.wulameron_serve.specs.declared.answerer.NodeAnswerer.{NodeAnswerer}
 use Rattle.wulameron_serve.specs.Asked.{AsksWith}
 use Rattle.wulameron_serve.specs.Lines.{AnswersWhileUsable, TellsTrouble, seen_as, status_with}
@@ -61,14 +61,19 @@ module _ {S : Type 0} (settles shows spans : S → S → Type 0) (step : S → L
       → (old new : Option (List ℕ)) → Type 0
   Serves = ServesBy spans step world AnswersLinesFor (w ≡ wrong_lines.End)
 
+-- why it ends if something of the node stays: the log can't be used any more, or has to be cleaned
+abbrev pub stays_by : (over : Option Trouble) → Halt
+stays_by (Some t) = halt.Log t
+stays_by None = halt.Owing
+
 -- What the node still has is given back, and where it ends well it has nothing any more. Else it ends as lines were
 -- served, or since something stays.
-pub record EndsSettled {S : Type 0} (settles : S → S → Type 0) (is_settled : S → ℕ → List ℕ → Type 0) (node : ℕ)
-    (left : S) (served ended : Result Ending Halt) : Type 0 where
+pub record EndsSettled {S : Type 0} (settles : S → S → Type 0) (trouble : S → Option Trouble)
+    (is_settled : S → ℕ → List ℕ → Type 0) (node : ℕ) (left : S) (served ended : Result Ending Halt) : Type 0 where
   pub last : S
   pub gives : settles left last
   pub rest : IfOk ended (λ ending. is_settled last node [])
-  pub ends : (ended ≡ served) ⊎ (ended ≡ Err halt.Owing)
+  pub ends : (ended ≡ served) ⊎ (ended ≡ Err (stays_by (last_of (trouble last))))
 
 module _ {S : Type 0} (settles shows spans : S → S → Type 0) (step : S → Letter → S → Type 0) (world : S → World)
     (trouble : S → Option Trouble) (writes : Writing S) (ending : List ℕ) (node : ℕ) (w : WrongLines)
@@ -79,7 +84,7 @@ module _ {S : Type 0} (settles shows spans : S → S → Type 0) (step : S → L
     pub cleaned : SpansSession shows (fresh_session storage) first
     pub served : Result Ending Halt
     pub left : S
-    pub settles_last : EndsSettled settles is_settled node left served ended
+    pub settles_last : EndsSettled settles trouble is_settled node left served ended
     pub serves : Serves settles shows spans step world trouble writes ending node w first served left input old new
 
   -- It serves so; or it ends by the log, and nothing is written.
@@ -101,7 +106,7 @@ module _ {L : Type 0} (contents : L → Option Contents) (held : L → Bool) (re
     pub cleaned : SpansSession ShowsOthers (fresh_session journal) first
     pub served : Result Ending Halt
     pub left : JournalState L
-    pub settles : EndsSettled (Lives contents) (λ j. OwesNothing j.world) node left served ended
+    pub settles : EndsSettled (Lives contents) (trouble_at refused) (λ j. OwesNothing j.world) node left served ended
     pub serves : Serves (Lives contents) ShowsOthers (Spans contents) (IsAccessOver contents held) (λ j. j.world)
         (trouble_at refused) WritesPlain [] node w first served left input old new
 
@@ -113,7 +118,8 @@ module _ {L : Type 0} (contents : L → Option Contents) (held : L → Bool) (re
     pub cleaned : SpansSession (SpansTraced ShowsOthers) (fresh_session (fresh_trace journal)) first
     pub served : Result Ending Halt
     pub left : TracedState (JournalState L)
-    pub settles : EndsSettled (SpansTraced (Lives contents)) (λ t. OwesNothing t.inner.world) node left served ended
+    pub settles : EndsSettled (SpansTraced (Lives contents)) (λ t. trouble_at refused t.inner)
+        (λ t. OwesNothing t.inner.world) node left served ended
     pub serves : Serves (SpansTraced (Lives contents)) (SpansTraced ShowsOthers) (SpansTraced (Spans contents))
         (IsTracedAccess (IsAccessOver contents held)) (λ t. t.inner.world) (λ t. trouble_at refused t.inner)
         (WritesExplained (IsAccessOver contents held) (λ j. j.world))
@@ -168,7 +174,7 @@ module _ {S D : Type 0} (settles shows spans : S → S → Type 0) (step : S →
     pub ended : Result Ending Halt
     pub left : S
     pub serves : ServesEscaped first served left input old new
-    pub rest : EndsSettled settles is_settled node left served ended
+    pub rest : EndsSettled settles trouble is_settled node left served ended
     pub is_status : status ≡ status_with ended
 
   -- The node is greeted before, or isn't.

@@ -38,7 +38,7 @@ use wulameron_place::dead::{DeadNodes, PlaceNodes};
 use wulameron_place::node_log::NodeLog;
 use wulameron_place::opening::{claim, states};
 use wulameron_place::reports::{Reports, STAYS};
-use wulameron_place::trouble::{Refusing, Trouble, Troubled};
+use wulameron_place::trouble::{Refusing, Trouble, Troubled, last_trouble};
 use wulameron_view::viewing::report_look;
 
 const NOT_MADE: &str = "no call was made; start the program again";
@@ -392,7 +392,8 @@ fn close_held<S: Viewed + Resuming + Troubled + Drop, D: DeadNodes + Drop, E: Wr
     status
 }
 
-/// Tells what kept a hold from its end, and that something of the node stays, and returns the status.
+/// Tells what kept a hold from its end, and returns the status. It tells that something of the node stays, unless the
+/// log can't be used any more, of which the writer of errors has a line.
 fn end_hold<E: Write>(
     trouble: Option<Trouble>,
     ended: Ended,
@@ -406,7 +407,9 @@ fn end_hold<E: Write>(
         let _ = report_hold(trouble, why, &offer, reports);
     }
     if !is_settled {
-        let _ = reports.tell(STAYS);
+        if last_trouble(trouble).is_none() {
+            let _ = reports.tell(STAYS);
+        }
         return FAULT;
     }
     match held {

@@ -64,10 +64,7 @@ pub fn tell_refusal<E: Write>(
 {
     match refusal_lines(reports.alloc(), refusal, offer) {
         Ok(lines) => tell_lines(lines.as_str(), reports),
-        Err(_) => {
-            reports.tell_no_memory();
-            Err(ServeError::OutOfMemory)
-        }
+        Err(_) => Err(reports.tell_no_memory()),
     }
 }
 

@@ -5,7 +5,7 @@ ghost use Rattle.iceoryx2_world.specs.Agreement.{Agrees};
 ghost use Rattle.iceoryx2_session.specs.SessionStates.{own_state};
 ghost use Rattle.wulameron_place.specs.Troubles.{or_gone};
 ghost use Rattle.wulameron_serve.specs.Lines.{IsUsable, status_with, wrong_lines_of};
-ghost use Rattle.wulameron_serve.specs.Served.{EndsSettled, Serves, ServesLog, ServesStarted};
+ghost use Rattle.wulameron_serve.specs.Served.{EndsSettled, Serves, ServesLog, ServesStarted, stays_by};
 ghost use Rattle.wulameron_serve.specs.Shared.{StandsFor};
 
 use crate::answerer::NodeAnswerer;
@@ -203,26 +203,38 @@ fn answer_started<
 
 /// Releases what the node still has after all was closed. It tells what goes wrong at the log.
 ///
-/// `Halt` if the lines were served so, and `Owing` if something of the node stays.
+/// `Halt` if the lines were served so. If something of the node stays, `Log` if the log can't be used any more, and
+/// `Owing` otherwise.
 pub(crate) fn settle_end<S: WorldStorage + Troubled + Drop, E: Write>(
     node: u64,
     served: Result<Ending, Halt>,
     storage: S,
     reports: &mut Reports<'_, E>,
 ) -> Result<Ending, Halt>
-    ensures { EndsSettled S.settles S.is_settled node storage served result }
+    ensures { EndsSettled S.settles S.trouble S.is_settled node storage served result }
 {
     let mut storage = storage;
     let is_settled = storage.settle(node, &[]).is_ok();
-    let _ = reports.look(&storage);
+    let over = reports.look(&storage);
     match served {
         Err(halt) => Err(halt),
         Ok(ending) => {
             if is_settled {
                 return Ok(ending);
             }
-            Err(Halt::Owing)
+            Err(stays_by(over))
         }
+    }
+}
+
+/// Returns why a program ends if something of its node stays, at a log that can't be used any more by this trouble, if
+/// any.
+fn stays_by(over: Option<Trouble>) -> Halt
+    ensures { result ≡ stays_by over }
+{
+    match over {
+        Some(trouble) => Halt::Log(trouble),
+        None => Halt::Owing,
     }
 }
 
