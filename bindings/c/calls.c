@@ -311,7 +311,7 @@ static void nodes(void)
         closes(other);
         GIVES(WULAMERON_OK, wulameron_nodes(session, &count));
         GIVES(WULAMERON_OK, wulameron_get_node(session, 1, &node, &state));
-        CHECK(node == 9 && state == WULAMERON_DEAD);
+        CHECK(node == 9 && state == WULAMERON_NODE_ENDED);
         GIVES(WULAMERON_OK, wulameron_clean(session, 9, 0, &count, &releases, &removals));
         CHECK(releases == 0 && removals == 0);
     }

@@ -1,5 +1,5 @@
 /* What a session over a log gives where something goes wrong: its program is killed or stopped, this process is killed
- * or forks, the node is taken. Takes a folder for logs; WULAMERON_PROGRAM names the program. Compiled with transport.c
+ * or forks, the node is taken. Takes a folder for logs; WULAMERON names the program. Compiled with transport.c
  * and -DPATIENCE=3, so that a call that waits for a program that is stopped waits three seconds. Ends with the line
  * `N passed, M failed`. */
 #define _POSIX_C_SOURCE 200809L
@@ -131,15 +131,17 @@ static void killed_program(void)
     second = opened(2);
     GIVES(WULAMERON_OK, wulameron_nodes(second, &nodes));
     GIVES(WULAMERON_OK, wulameron_get_node(second, 0, &node, &state));
-    CHECK(nodes == 2 && node == 1 && state == WULAMERON_DEAD);
     /* It began by giving back what dead nodes had. */
-    CHECK(listed(second) == 0);
+    CHECK(nodes == 2 && node == 1 && state == WULAMERON_NODE_ENDED && listed(second) == 0);
     /* One that dies beside it is given back when it is asked for: its place, its tag, the segment, the description. */
     first = opened(1);
     GIVES(WULAMERON_OK, creates(first, 1));
     kills_newest();
     GIVES(WULAMERON_ENDED, wulameron_close_session(first));
     CHECK(listed(second) == 1);
+    GIVES(WULAMERON_OK, wulameron_nodes(second, &nodes));
+    GIVES(WULAMERON_OK, wulameron_get_node(second, 0, &node, &state));
+    CHECK(nodes == 2 && node == 1 && state == WULAMERON_DEAD);
     GIVES(WULAMERON_OK, wulameron_clean(second, 1, 1, &nodes, &releases, &removals));
     CHECK(nodes == 1 && releases == 1 && removals == 3 && listed(second) == 1);
     GIVES(WULAMERON_OK, wulameron_clean(second, WULAMERON_ANY_NODE, 0, &nodes, &releases, &removals));

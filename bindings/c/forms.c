@@ -38,7 +38,7 @@ static wulameron_session *answered(const char *words)
 {
     char text[1024];
     wulameron_session *session = NULL;
-    snprintf(text, sizeof text, "echo 'ready 2 5'\nwhile read -r line; do %s\ndone", words);
+    snprintf(text, sizeof text, "echo 'ready 3 5'\nwhile read -r line; do %s\ndone", words);
     GIVES(WULAMERON_OK, opens(text, &session, NULL, 0, NULL));
     return session;
 }
@@ -46,14 +46,14 @@ static wulameron_session *answered(const char *words)
 /* The first line is of another form, or cut short, or tells what is wrong. */
 static void greetings(void)
 {
-    static const char *const others[] = {"echo 'ready 2'", "echo 'ready 2 5 6'", "echo 'ready 2 five'", "echo ok; cat",
-        "echo", "printf 'ready 2 5'", "printf 'log abc'", "printf 'ready 2 5\\nlog x\\n'; cat", "echo 'log %4'",
+    static const char *const others[] = {"echo 'ready 3'", "echo 'ready 3 5 6'", "echo 'ready 3 five'", "echo ok; cat",
+        "echo", "printf 'ready 3 5'", "printf 'log abc'", "printf 'ready 3 5\\nlog x\\n'; cat", "echo 'log %4'",
         "echo 'log %4g'",
-        "echo 'ready 2 99999999999999999999'", "exec sleep 1000", "exec yes", "exec tr '\\0' x < /dev/zero"};
+        "echo 'ready 3 99999999999999999999'", "exec sleep 1000", "exec yes", "exec tr '\\0' x < /dev/zero"};
     wulameron_session *session = NULL;
     char message[64] = "xxxxxxxx";
     size_t k, length = 0;
-    GIVES(WULAMERON_VERSION_DIFFERS, opens("echo 'ready 3 5'; cat", &session, message, sizeof message, &length));
+    GIVES(WULAMERON_VERSION_DIFFERS, opens("echo 'ready 2 5'; cat", &session, message, sizeof message, &length));
     CHECK(length > 0 && session == NULL);
     GIVES(WULAMERON_OUT_OF_MEMORY, opens("echo 'out of memory'", &session, NULL, 0, NULL));
     for (k = 0; k < sizeof others / sizeof *others; k++) {
@@ -161,7 +161,7 @@ static void endless(void)
         time_t begin = time(NULL);
         uint64_t count = 0;
         char words[256];
-        snprintf(words, sizeof words, "echo 'ready 2 5'; %s", thens[k]);
+        snprintf(words, sizeof words, "echo 'ready 3 5'; %s", thens[k]);
         GIVES(WULAMERON_OK, opens(words, &session, NULL, 0, NULL));
         GIVES(WULAMERON_ENDED, wulameron_list(session, &count));
         GIVES(WULAMERON_ENDED, wulameron_close_session(session));

@@ -26,7 +26,7 @@
 
 /* The number of the form of lines, the longest first line, the status of a program that posix_spawnp couldn't start
  * where the system tells so late, what stands for the status of one that was killed, and a wait in milliseconds. */
-enum { FORM = 2, GREETING = 65536, NOT_STARTED = 127, KILLED = 256, WAIT = 1000 * PATIENCE };
+enum { FORM = 3, GREETING = 65536, NOT_STARTED = 127, KILLED = 256, WAIT = 1000 * PATIENCE };
 
 extern char **environ;
 
@@ -98,9 +98,34 @@ uint32_t wulameron_program_ask(wulameron_program *program, const wulameron_text 
 
 /* ---- the program */
 
+/* The variable that names the program, and its name before version 3. */
+static const char variable[] = "WULAMERON", old_variable[] = "WULAMERON_PROGRAM";
+
+/* What a variable names; null where it isn't set, or is empty. */
+static const char *named_by(const char *name)
+{
+    const char *value = getenv(name);
+    return value != NULL && *value != 0 ? value : NULL;
+}
+
+/* The environment without the variable that named the program; null where there is no memory. The caller frees it. */
+static char **without_variable(void)
+{
+    const size_t length = sizeof variable - 1;
+    size_t count = 0, kept = 0, at;
+    char **others;
+    while (environ != NULL && environ[count] != NULL) count++;
+    others = (char **)malloc((count + 1) * sizeof *others);
+    if (others == NULL) return NULL;
+    for (at = 0; at < count; at++)
+        if (strncmp(environ[at], variable, length) != 0 || environ[at][length] != '=') others[kept++] = environ[at];
+    others[kept] = NULL;
+    return others;
+}
+
 /* Starts the program with an end of the stream as its standard input and output, in a process group of its own, as
  * attributes have it from the start, so that a terminal's signals for this program's group don't end it. */
-static int spawns(char *const words[], int end, pid_t *process)
+static int spawns(char *const words[], char *const environment[], int end, pid_t *process)
 {
     posix_spawn_file_actions_t actions;
     posix_spawnattr_t attributes;
@@ -114,7 +139,7 @@ static int spawns(char *const words[], int end, pid_t *process)
         if (fault == 0) fault = posix_spawn_file_actions_adddup2(&actions, end, STDOUT_FILENO);
         if (fault == 0) fault = posix_spawnattr_setsigmask(&attributes, &none);
         if (fault == 0) fault = posix_spawnattr_setflags(&attributes, POSIX_SPAWN_SETSIGMASK | POSIX_SPAWN_SETPGROUP);
-        if (fault == 0) fault = posix_spawnp(process, words[0], &actions, &attributes, words, environ);
+        if (fault == 0) fault = posix_spawnp(process, words[0], &actions, &attributes, words, environment);
         posix_spawnattr_destroy(&attributes);
     }
     posix_spawn_file_actions_destroy(&actions);
@@ -122,15 +147,16 @@ static int spawns(char *const words[], int end, pid_t *process)
 }
 
 /* Starts it at a new stream. No other program inherits the ends, and neither is in the place of a standard stream. */
-static int starts(wulameron_program *program, char *const words[])
+static int starts(wulameron_program *program, char *const words[], char *const environment[])
 {
     int made[2], end, fault = 0;
+    if (environment == NULL) return ENOMEM;
     if (socketpair(AF_UNIX, SOCK_STREAM | SOCK_CLOEXEC, 0, made) != 0) return errno;
     program->owner = getpid();
     program->stream = fcntl(made[0], F_DUPFD_CLOEXEC, STDERR_FILENO + 1);
     end = fcntl(made[1], F_DUPFD_CLOEXEC, STDERR_FILENO + 1);
     if (program->stream < 0 || end < 0) fault = errno;
-    if (fault == 0) fault = spawns(words, end, &program->process);
+    if (fault == 0) fault = spawns(words, environment, end, &program->process);
     if (fault != 0 && program->stream >= 0) close(program->stream);
     if (end >= 0) close(end);
     close(made[0]);
@@ -187,9 +213,11 @@ static uint32_t greets(wulameron_program *program, wulameron_text *line)
 uint32_t wulameron_program_start(wulameron_program *program, const char *name, const char *path, uint64_t node,
     wulameron_text *why)
 {
-    const char *named = getenv("WULAMERON_PROGRAM"), *usual = named != NULL && *named != 0 ? named : "wulameron";
+    const char *named = name == NULL ? named_by(variable) : NULL;
+    const char *old = name == NULL && named == NULL ? named_by(old_variable) : NULL;
+    const char *taken = name != NULL ? name : named != NULL ? named : old != NULL ? old : "wulameron";
     char number[24], what[128] = "it can't be started";
-    char *words[8] = {(char *)(name != NULL ? name : usual), "run", "--escaped"}, **next = words + 3;
+    char *words[8] = {(char *)taken, "run", "--escaped"}, **next = words + 3, **others = NULL;
     int fault = ENOMEM;
     uint32_t code = WULAMERON_NO_PROGRAM;
     if (path != NULL) *next++ = "--at";
@@ -197,13 +225,16 @@ uint32_t wulameron_program_start(wulameron_program *program, const char *name, c
     if (node != WULAMERON_ANY_NODE) *next++ = "--node";
     if (node != WULAMERON_ANY_NODE) *next = number;
     snprintf(number, sizeof number, "%llu", (unsigned long long)node);
-    if (wulameron_has_room(why, LEAST)) fault = starts(program, words);
+    if (named != NULL) others = without_variable();
+    if (wulameron_has_room(why, LEAST)) fault = starts(program, words, named != NULL ? others : environ);
+    free(others);
     if (fault == ENOMEM) return WULAMERON_OUT_OF_MEMORY;
     if (fault != 0) (void)strerror_r(fault, what, sizeof what);
     else code = greets(program, why);
     if (fault == 0 && code != WULAMERON_OK && finishes(program) == NOT_STARTED && code == WULAMERON_ENDED)
         code = WULAMERON_NO_PROGRAM;
-    if (code == WULAMERON_NO_PROGRAM) (void)wulameron_put(why, "$: $", words[0], what);
+    if (code == WULAMERON_NO_PROGRAM)
+        (void)wulameron_put(why, "$: $$", words[0], what, old == NULL ? "" : "; WULAMERON_PROGRAM is now WULAMERON");
     if (code == WULAMERON_VERSION_DIFFERS) (void)wulameron_put(why, "$: its sessions have another form", words[0]);
     if (code == WULAMERON_ENDED) (void)wulameron_put(why, "$: it isn't a program for sessions", words[0]);
     return code;

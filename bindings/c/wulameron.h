@@ -35,7 +35,7 @@
 extern "C" {
 #endif
 
-#define WULAMERON_VERSION 2u
+#define WULAMERON_VERSION 3u
 #define WULAMERON_SLOTS 64u
 #define WULAMERON_HASH_SIZE 20u
 #define WULAMERON_PATIENCE 60u
@@ -135,8 +135,10 @@ typedef struct wulameron_session wulameron_session;
 #define WULAMERON_PUBLISHED 2u
 #define WULAMERON_MARKED 3u       /* its last node has left, and something of it is left */
 #define WULAMERON_SEGMENT_ALONE 4u
+/* Of a node: a process has it; that process is gone and left something, or left nothing. */
 #define WULAMERON_ALIVE 1u
 #define WULAMERON_DEAD 2u
+#define WULAMERON_NODE_ENDED 3u
 
 /* Why a call was refused: a thousand for the error's enum, and the place of the value in it, counted from 1. An open or
  * create has those of its open from 3001, 6001 and 9001 on, those of its create from 3501, 6501 and 9501 on, and 3999,
@@ -165,10 +167,11 @@ uint32_t wulameron_refusal_advice(uint32_t refusal, char *output, size_t size, s
 uint32_t wulameron_open_table(uint32_t version, wulameron_session **out);
 /* Opens a session over the log in the file `path`, which is made where there is none, and claims `node` there, or with
  * WULAMERON_ANY_NODE the lowest that is free. A program holds it, `wulameron run --escaped`: `program` is its path, or
- * a name that is looked for on the PATH; null stands for what the variable WULAMERON_PROGRAM names, or else for
- * `wulameron`. A null `path` stands for that program's own default. Both end with a 0. What is wrong goes into
- * `message`: as much of it as there is room for. *length is how many bytes the whole has; `length` may be null. *out is
- * null then.
+ * a name that is looked for on the PATH; null stands for what the variable WULAMERON names, or else for `wulameron`.
+ * The program doesn't get that variable then, so it may be wulameron-postgres. Before version 3 the variable was
+ * WULAMERON_PROGRAM, which counts if WULAMERON isn't set; if the program can't be started then, the message tells the
+ * new name. A null `path` stands for that program's own default. Both end with a 0. What is wrong goes into `message`:
+ * as much of it as there is room for. *length is how many bytes the whole has; `length` may be null. *out is null then.
  * The program has its own process group, and a socket as its standard input and output. Where this process ends in
  * whatever way, it closes what the slots hold, and ends. Where it is killed itself, its node is dead, and what that had
  * is given back by the next one that starts at the log. In the child of a fork the session gives WULAMERON_ENDED. */
@@ -261,7 +264,8 @@ uint32_t wulameron_get_reply(wulameron_session *session, char *output, size_t si
 uint32_t wulameron_node(wulameron_session *session, uint64_t *node);
 /* Looks which nodes were ever claimed at the log, and tells how many. */
 uint32_t wulameron_nodes(wulameron_session *session, uint64_t *count);
-/* The node of this index of the last look, by rising number, and whether it is WULAMERON_ALIVE or WULAMERON_DEAD. */
+/* The node of this index of the last look, by rising number, and its state: WULAMERON_ALIVE, WULAMERON_DEAD or
+ * WULAMERON_NODE_ENDED. */
 uint32_t wulameron_get_node(wulameron_session *session, uint64_t index, uint64_t *node, uint32_t *state);
 /* Gives back what a dead node has, or with WULAMERON_ANY_NODE what each has: tells how many nodes had something, how
  * many places at services they left, and how many things were removed, such as tags, segments and descriptions. With

@@ -1,6 +1,6 @@
 """Tests of wulameron.py: what the pages tell, by `python3 -m unittest` in this folder, after `tools/build-c`.
 
-Those over a log need the program `wulameron`, which WULAMERON_PROGRAM names, or else is crates/wulameron/out/wulameron.
+Those over a log need the program `wulameron`, which WULAMERON names, or else is crates/wulameron/out/wulameron.
 """
 import hashlib
 import os
@@ -16,7 +16,7 @@ import unittest
 import wulameron as w
 
 HERE = pathlib.Path(__file__).resolve().parent
-os.environ.setdefault("WULAMERON_PROGRAM", str(HERE.parent.parent / "crates/wulameron/out/wulameron"))
+os.environ.setdefault("WULAMERON", str(HERE.parent.parent / "crates/wulameron/out/wulameron"))
 
 
 def numbers_of_header():
@@ -154,16 +154,18 @@ class Looks(unittest.TestCase):
     def test_log(self):
         """Over a log, whose path and program are given."""
         with tempfile.TemporaryDirectory(prefix="wulameron-") as folder:
-            words = {"path": pathlib.Path(folder) / "log", "program": os.environ["WULAMERON_PROGRAM"]}
+            words = {"path": pathlib.Path(folder) / "log", "program": os.environ["WULAMERON"]}
             with w.Session(node=5, **words) as session:
                 self.looks(session, 5)
                 with w.Session(node=9, **words):
-                    self.assertEqual(session.nodes(), [(5, True), (9, True)])
+                    alive = w.NodeState.ALIVE
+                    self.assertEqual(session.nodes(), [(5, alive), (9, alive)])
                     for node, code in ((9, w.Code.NODE_ALIVE), (10, w.Code.NO_SUCH_ITEM)):
                         with self.assertRaises(w.WulameronError) as error:
                             session.clean(node)
                         self.assertIs(error.exception.code, code)
-                self.assertEqual(session.nodes(), [(5, True), (9, False)])
+                self.assertEqual(session.nodes(), [(5, alive), (9, w.NodeState.ENDED)])
+                self.assertEqual([node.is_alive for node in session.nodes()], [True, False])
                 self.assertEqual(session.clean(dry_run=True), w.Cleaned(0, 0, 0))
                 self.assertEqual(session.clean(9), w.Cleaned(0, 0, 0))
 

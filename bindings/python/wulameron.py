@@ -12,7 +12,7 @@
 The import loads the library that `tools/build-c` builds or installs. It takes the file that WULAMERON_LIBRARY names, or
 else libwulameron.so beside this module, or else bindings/c/out/libwulameron.so of the repository, or else what the
 system's loader finds as libwulameron.so.0. A session over a log starts the program `wulameron`, or what
-WULAMERON_PROGRAM names. The numbers are those of wulameron.h, which tells each call. A session is for the thread that
+WULAMERON names (before version 3 WULAMERON_PROGRAM). The numbers are those of wulameron.h, which tells each call. A session is for the thread that
 opened it.
 """
 from __future__ import annotations
@@ -46,7 +46,7 @@ def _loaded() -> ctypes.CDLL:
 
 _LIBRARY = _loaded()
 
-VERSION = 2
+VERSION = 3
 # The path of the log that the program has by default.
 DEFAULT_PATH = ""
 # Patterns, and how a service is wanted.
@@ -72,7 +72,7 @@ FIXED_SIZE, DYNAMIC = 1, 2
 
 # What stands of an entry of a listing.
 BEING_CREATED, PUBLISHED, MARKED, SEGMENT_ALONE = 1, 2, 3, 4
-_ALIVE, _ANY_NODE = 1, 2**64 - 1
+_ANY_NODE = 2**64 - 1
 
 _U32, _U64, _SIZE = ctypes.c_uint32, ctypes.c_uint64, ctypes.c_size_t
 # `Session` has methods of these names.
@@ -201,11 +201,24 @@ class Entry(NamedTuple):
     hash: bytes
 
 
+class NodeState(enum.IntEnum):
+    """Whether a node's process is alive, and if it is gone, whether it left something (DEAD) or nothing (ENDED)."""
+
+    ALIVE = 1
+    DEAD = 2
+    ENDED = 3
+
+
 class KnownNode(NamedTuple):
-    """A node that was ever claimed at the log, and whether its process is alive."""
+    """A node that was ever claimed at the log, and its state."""
 
     node: int
-    is_alive: bool
+    state: NodeState
+
+    @property
+    def is_alive(self) -> bool:
+        """Whether its process is alive."""
+        return self.state is NodeState.ALIVE
 
 
 class Cleaned(NamedTuple):
@@ -461,7 +474,7 @@ class Session:
         found = []
         for index in range(count.value):
             self._does("get_node", _u64(index), ctypes.byref(node), ctypes.byref(state))
-            found.append(KnownNode(node.value, state.value == _ALIVE))
+            found.append(KnownNode(node.value, NodeState(state.value)))
         return found
 
     def clean(self, node: int | None = None, *, dry_run: bool = False) -> Cleaned:

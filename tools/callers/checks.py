@@ -23,7 +23,7 @@ class Checks:
         self.passed = self.failed = self.folders = 0
         self.compiler = os.environ.get("CC", "cc")
         # The crate for Rust would take an installed library before the one that is checked here.
-        self.environment = os.environ | {"WULAMERON_PROGRAM": str(program), "WULAMERON_LIB_DIR": str(OUT)}
+        self.environment = os.environ | {"WULAMERON": str(program), "WULAMERON_LIB_DIR": str(OUT)}
 
     def folder(self):
         """A new folder, for logs."""

@@ -23,11 +23,12 @@ IS_THERE = "EventCreateError::AlreadyExists"
 
 @dataclass(frozen=True)
 class Place:
-    """A log, the program that holds sessions over it, and what is in their environment."""
+    """A log, the program that holds sessions over it, its environment, and that of callers that start it."""
 
     log: str
     program: str
     environment: dict
+    of_callers: dict
 
     def listing(self, checks):
         """What stands in the log: each service with its nodes, and whether these are alive."""
@@ -91,9 +92,9 @@ class Program(Caller):
 def callers(checks, place):
     """The callers that can be made here."""
     archive, meet, log = OUT / "libwulameron.a", checks.room / "meet", place.log
-    environment = place.environment
+    environment = place.of_callers
     found = [Caller("python", [sys.executable, "-B", TOP / "bindings/python/meet.py", log], environment)]
-    found.append(Program("run", [place.program, "run", "--at", log, "--node", Program.NODE], environment))
+    found.append(Program("run", [place.program, "run", "--at", log, "--node", Program.NODE], place.environment))
     if checks.builds([checks.compiler, *FLAGS, "-o", meet, C / "meet.c", archive], "meet.c"):
         found.append(Caller("c", [meet, log], environment))
     if checks.has("cargo"):
@@ -184,7 +185,7 @@ def opened(place, node):
 
 def meeting(checks):
     """All of them over one log."""
-    place = Place(str(checks.folder() / "log"), checks.program, checks.environment)
+    place = Place(str(checks.folder() / "log"), checks.program, checks.environment, checks.environment)
     session = opened(place, 99)
     found = callers(checks, place)
     agree(checks, found)
@@ -203,8 +204,10 @@ def meeting_in_postgres(checks):
     server = Server(programs, checks.server_room())
     try:
         server.make()
-        own = {"WULAMERON": str(checks.program), "WULAMERON_PROGRAM": str(LAUNCHER), "WULAMERON_RECONNECT": "0"}
-        place = Place("postgres:meeting", LAUNCHER, checks.environment | server.environment() | own)
+        own = checks.environment | server.environment() | {"WULAMERON_RECONNECT": "0"}
+        # The callers' variable names the launcher, which doesn't get it, and finds its program on the path.
+        path = f"{checks.program.parent}:{own['PATH']}"
+        place = Place("postgres:meeting", LAUNCHER, own, own | {"WULAMERON": str(LAUNCHER), "PATH": path})
         session = opened(place, 99)
         found = callers(checks, place)
         agree(checks, found)

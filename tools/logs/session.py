@@ -9,7 +9,7 @@ from logs.runs import FAULT, PATIENCE, SECONDS
 # The name has what parts words, terms and values, and a character of three bytes.
 NAME = "lamps, 100%: a=b \u20ac"
 KEY, VALUE = "colour of it", ""
-READY = "ready 2 "
+READY = "ready 3 "
 # For how many milliseconds who wants a node waits that another has.
 SHORT_WAIT = 100
 # DoesNotSupportRequestedAmountOfListeners and ExceedsMaxNumberOfNodes, by their places in docs/REFUSALS.md.
@@ -138,6 +138,7 @@ def check_dead(runs, path, client):
     client.answers("rehearse", "cleaned nodes=1 releases=1 removals=1")
     runs.need(path.read_bytes() == before, "a rehearsal of cleaning changed the log")
     client.answers("clean", "cleaned nodes=1 releases=1 removals=1")
+    client.answers("nodes", "nodes 2 1,alive 2,ended")
     check_shown(runs, path, {1: True}, "after a clean")
 
 

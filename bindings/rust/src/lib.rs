@@ -33,7 +33,7 @@ mod raw;
 
 pub use builders::{Event, PortFactory, PublishSubscribe, RequestResponse, ServiceBuilder, TypeDetail};
 pub use errors::*;
-pub use looks::{Cleaned, Entry, KnownNode, Pattern, State};
+pub use looks::{Cleaned, Entry, KnownNode, NodeState, Pattern, State};
 use raw::call;
 use std::cell::Cell;
 use std::ffi::{c_void, CString};
@@ -126,7 +126,8 @@ pub struct NodeBuilder {
     pub path: Option<PathBuf>,
     /// The node's number, or that of a free one.
     pub number: Option<u64>,
-    /// The program that holds the session, or else what WULAMERON_PROGRAM names, or else `wulameron`.
+    /// The program that holds the session, or else what WULAMERON names (before version 3 WULAMERON_PROGRAM), or else
+    /// `wulameron`.
     pub program: Option<PathBuf>,
 }
 

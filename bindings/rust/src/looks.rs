@@ -34,11 +34,29 @@ pub struct Entry {
     pub hash: Vec<u8>,
 }
 
-/// A node that was ever claimed at a log, and whether its process is alive.
+/// Whether a node's process is alive.
+#[derive(Clone, Copy, Debug, PartialEq, Eq)]
+#[non_exhaustive]
+pub enum NodeState {
+    Alive,
+    /// Its process is gone, and something that it had is left.
+    Dead,
+    /// Its process is gone, and nothing is left.
+    Ended,
+}
+
+/// A node that was ever claimed at a log, and its state.
 #[derive(Clone, Copy, Debug, PartialEq, Eq)]
 pub struct KnownNode {
     pub number: u64,
-    pub is_alive: bool,
+    pub state: NodeState,
+}
+
+impl KnownNode {
+    /// Whether its process is alive.
+    pub fn is_alive(&self) -> bool {
+        self.state == NodeState::Alive
+    }
 }
 
 /// What was given back: of how many nodes, how many places at services, and how many things were removed.
@@ -108,7 +126,12 @@ impl Node {
         let known = |index| {
             let (mut number, mut state) = (0, 0);
             session.done(call!(wulameron_get_node, session.pointer, index, &mut number, &mut state))?;
-            Ok(KnownNode { number, is_alive: state == raw::ALIVE })
+            let state = match state {
+                raw::ALIVE => NodeState::Alive,
+                raw::DEAD => NodeState::Dead,
+                _ => NodeState::Ended,
+            };
+            Ok(KnownNode { number, state })
         };
         (0..count).map(known).collect()
     }

@@ -1,7 +1,7 @@
 //! The functions of wulameron.h, and the numbers of it that are named here.
 use std::ffi::{c_char, c_void};
 
-pub const VERSION: u32 = 2;
+pub const VERSION: u32 = 3;
 pub const ANY_NODE: u64 = u64::MAX;
 pub const OK: u32 = 0;
 pub const TOO_SMALL: u32 = 5;
@@ -10,8 +10,9 @@ pub const REFUSED: u32 = 20;
 pub const NONE: u32 = 22;
 pub const LOG: u32 = 26;
 pub const BAD_LINE: u32 = 31;
-/// The state of a node whose process is alive.
+/// The states of a node whose process is alive, and of one whose process is gone and left something.
 pub const ALIVE: u32 = 1;
+pub const DEAD: u32 = 2;
 /// None of wulameron.h: all 64 slots are taken.
 pub const NO_FREE_SLOT: u32 = 100;
 

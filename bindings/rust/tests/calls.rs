@@ -205,17 +205,19 @@ fn a_table_is_looked_at() -> Outcome {
 #[test]
 fn a_log_is_looked_at() -> Outcome {
     let log = Log::new("look")?;
-    let program = std::env::var_os("WULAMERON_PROGRAM").map(PathBuf::from);
+    let program = std::env::var_os("WULAMERON").map(PathBuf::from);
     let builder = NodeBuilder { path: Some(log.path()), program, ..NodeBuilder::default() };
     let node = NodeBuilder { number: Some(5), ..builder.clone() }.create()?;
     looks(&node)?;
     let other = NodeBuilder { number: Some(9), ..builder }.create()?;
-    let known = |number, is_alive| KnownNode { number, is_alive };
-    assert_eq!(node.nodes()?, [known(5, true), known(9, true)]);
+    let known = |number, state| KnownNode { number, state };
+    assert_eq!(node.nodes()?, [known(5, NodeState::Alive), known(9, NodeState::Alive)]);
     assert_eq!(node.clean(Some(9), false).err().map(|failure| failure.code), Some(Code::NodeAlive));
     assert_eq!(node.clean(Some(10), false).err().map(|failure| failure.code), Some(Code::NoSuchItem));
     drop(other);
-    assert_eq!(node.nodes()?, [known(5, true), known(9, false)]);
+    let ended = known(9, NodeState::Ended);
+    assert_eq!(node.nodes()?, [known(5, NodeState::Alive), ended]);
+    assert!(!ended.is_alive());
     let nothing = Cleaned { nodes: 0, releases: 0, removals: 0 };
     assert_eq!((node.clean(None, true)?, node.clean(Some(9), false)?), (nothing, nothing));
     Ok(())
@@ -227,7 +229,7 @@ fn other_programs_find_it() -> Outcome {
     let log = Log::new("find")?;
     let node = Node::over_log(log.path())?;
     let _lamps = node.service_builder("lamps").event().create()?;
-    let program = std::env::var_os("WULAMERON_PROGRAM").ok_or("WULAMERON_PROGRAM names the program")?;
+    let program = std::env::var_os("WULAMERON").ok_or("WULAMERON names the program")?;
     let list = Command::new(program).arg("list").arg("--at").arg(log.path()).stderr(Stdio::inherit()).output()?;
     assert!(String::from_utf8_lossy(&list.stdout).contains("lamps"));
     Ok(())

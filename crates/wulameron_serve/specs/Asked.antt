@@ -12,10 +12,11 @@ use Rattle.wulameron_serve.specs.Nodes.{IsNodesReply}
 use Rattle.wulameron_serve.specs.Shared.{GivesBack}
 
 module _ {S : Type 0} (shows : S → S → Type 0) (world : S → World) (trouble : S → Option Trouble) where
-  -- How a question is answered: about the nodes at the log, by what dead ones have, which is given back or would be,
+  -- How a question is answered: about the nodes at the log, as they stand in the session's world, by what dead ones
+  -- have, which is given back or would be,
   -- and else of the session alone.
   abbrev pub AsksFor : SessionOver S → Question → (text : List ℕ) → SessionOver S → Type 0
-  AsksFor old question.Nodes text new = (new ≡ old) × IsNodesReply text
+  AsksFor old question.Nodes text new = (new ≡ old) × IsNodesReply (world old.table) text
   AsksFor old (question.Clean named) text new = CleansAsked shows world trouble named old text new
   AsksFor old (question.Rehearse named) text new = (new ≡ old) × RehearsesAsked named text
   AsksFor old q text new = AnswersQuestion world old q text new

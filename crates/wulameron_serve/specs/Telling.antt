@@ -18,7 +18,7 @@ use Rattle.wulameron_place.specs.Troubles.{trouble_text}
 
 -- the line that answers nothing: the number of this form of lines, and the node
 abbrev pub greeting_of : (node : ℕ) → List ℕ
-greeting_of node = codes "ready 2 " ++ decimal node ++ codes "\n"
+greeting_of node = codes "ready 3 " ++ decimal node ++ codes "\n"
 
 -- the line of these words, with a leaf behind them
 abbrev pub told_line : (words why : List ℕ) → List ℕ

@@ -7,13 +7,14 @@ ghost use Rattle.negotiate_lines.specs.declared.leaf.Form.TheVariants as written
 ghost use Rattle.negotiate_serve.specs.Replies.{GrowsBy};
 ghost use Rattle.wulameron_serve.specs.Asked.{AsksFor, AsksWith};
 ghost use Rattle.wulameron_serve.specs.Cleaning.{CleansAsked};
+ghost use Rattle.wulameron_serve.specs.Nodes.{IsNodesReply};
 ghost use Rattle.wulameron_serve.specs.Shared.{AnswersWith, StandsFor};
 ghost use Rattle.wulameron_serve.specs.Views.{writes_in};
 
 use crate::answerer::NodeAnswerer;
 use crate::cleaning::{answer_clean, answer_rehearse};
 use crate::nodes::{SharedNodes, answer_nodes};
-use crate::view::Viewed;
+use crate::view::{StoresWorld, Viewed};
 use escaped_serve::answerer::Asked;
 use escaped_serve::questions::answer_question;
 use iceoryx2_builder::command::Command;
@@ -23,7 +24,7 @@ use negotiate_lines::question::Question;
 use std::alloc::AllocError;
 use wulameron_place::trouble::Troubled;
 
-impl<S: Viewed + Resuming + Troubled, D: SharedNodes + Drop> NodeAnswerer<S, D> {
+impl<S: Viewed + StoresWorld + Resuming + Troubled, D: SharedNodes + Drop> NodeAnswerer<S, D> {
     /// Answers a question, without what is written before and after each answer.
     fn ask_alone(&mut self, question: &Question, text: &mut String) -> Result<(), AllocError>
         requires { IsNoPlain question.now }
@@ -35,11 +36,19 @@ impl<S: Viewed + Resuming + Troubled, D: SharedNodes + Drop> NodeAnswerer<S, D> 
             → StandsFor S.world S.own S.ready self.old.node (own_state self.new.session) }
     {
         match question {
-            Question::Nodes => answer_nodes(&self.dead, text),
+            Question::Nodes => self.tell_nodes(text),
             Question::Clean { node } => self.clean_for(*node, text),
             Question::Rehearse { node } => answer_rehearse(&self.dead, *node, text),
             _ => self.tell(question, text),
         }
+    }
+
+    /// Tells each node at the log, with its standing in the session's world.
+    fn tell_nodes(&self, text: &mut String) -> Result<(), AllocError>
+        ensures { OnOk result (GrowsBy (IsNodesReply (S.world (own_state self.now.session).table))
+            (string_bytes text.old) (string_bytes text.new)) }
+    {
+        answer_nodes(&self.dead, self.session.storage().stored(), text)
     }
 
     /// Releases what dead nodes have, or what the named one has, and writes the reply.
@@ -68,7 +77,8 @@ impl<S: Viewed + Resuming + Troubled, D: SharedNodes + Drop> NodeAnswerer<S, D> 
 }
 
 /// It first takes over what others did, and releases what the node owes of earlier commands.
-impl<S: Viewed + Resuming + Troubled, D: SharedNodes + Drop> Asked for NodeAnswerer<S, D> {
+impl<S: Viewed + StoresWorld + Resuming + Troubled, D: SharedNodes + Drop> Asked
+    for NodeAnswerer<S, D> {
     ghost answers_escaped = { λ old line c text new. (new.node ≡ old.node) × AnswersWith written.Escaped S.settles
         S.shows S.spans S.step S.world (writes_in written.Escaped S.writes) old.node line [] (own_state old.session) c
         text (own_state new.session) };

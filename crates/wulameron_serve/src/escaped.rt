@@ -19,7 +19,7 @@ use crate::own_lines::OwnLines;
 use crate::run::{report_end, settle_end};
 use crate::telling::{greeting, tell_trouble, tell_unclaimed, tell_wrong};
 use crate::told_lines::ToldLines;
-use crate::view::Viewed;
+use crate::view::{StoresWorld, Viewed};
 use escaped_serve::lines::EscapedLines;
 use iceoryx2_log::call_log::SpansCalls;
 use iceoryx2_session::resuming::{Renewing, Resuming};
@@ -210,7 +210,7 @@ fn greet<W: Write>(alloc: Global, node: u64, output: &mut W) -> Result<(), Serve
 
 /// Greets, answers each line, closes what is open, and releases what the node still has.
 fn greet_and_answer<
-    S: Viewed + Resuming + Troubled + Drop,
+    S: Viewed + StoresWorld + Resuming + Troubled + Drop,
     D: SharedNodes + Drop,
     R: Read + Drop,
     W: Write,
@@ -232,7 +232,7 @@ fn greet_and_answer<
 
 /// Does the same without the greeting.
 fn answer_greeted<
-    S: Viewed + Resuming + Troubled + Drop,
+    S: Viewed + StoresWorld + Resuming + Troubled + Drop,
     D: SharedNodes + Drop,
     R: Read + Drop,
     W: Write,
@@ -253,7 +253,7 @@ fn answer_greeted<
 /// Answers each escaped line of an input, and then closes all that is open, whatever ended the input. Returns the
 /// storage.
 pub fn answer_escaped_input<
-    S: Viewed + Resuming + Troubled,
+    S: Viewed + StoresWorld + Resuming + Troubled,
     D: SharedNodes + Drop,
     R: Read + Drop,
     W: Write,

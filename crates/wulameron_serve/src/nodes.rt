@@ -3,11 +3,11 @@
 ghost use Rattle.std.specs.Prelude.{◌≡◌, ◌++◌, IfOk, OnOk, string_bytes};
 ghost use Rattle.std.specs.List.{flat_map};
 ghost use Rattle.wulameron_place.specs.Clean.{AreWanted};
-ghost use Rattle.wulameron_serve.specs.Nodes.{IsNodesReply, node_word, nodes_reply, state_word};
+ghost use Rattle.wulameron_serve.specs.Nodes.{IsNodesReply, node_word, nodes_reply};
 ghost use Rattle.negotiate_serve.specs.Replies.{GrowsBy};
 
 use crate::telling::refuse_for;
-use iceoryx2_monitoring::state::{NodeState, NodeStatus};
+use iceoryx2_monitoring::state::NodeStatus;
 use iceoryx2_table::table::stored::StoredWorld;
 use std::alloc::{AllocError, Global};
 use std::fs::File;
@@ -20,6 +20,8 @@ use wulameron_place::clean::{Unfound, caught_up, wanted_nodes};
 use wulameron_place::dead::{DeadNodes, PlaceNodes};
 use wulameron_place::opening::open_view;
 use wulameron_place::reports::Reports;
+use wulameron_view::nodes_json::key_word;
+use wulameron_view::states::{NodeStanding, standings};
 
 /// Finds all nodes of a log, and what the log comes to.
 pub trait SharedNodes: DeadNodes {
@@ -53,36 +55,26 @@ impl<'a, F: Files<File = File> + Clock + RandomSource + AllocGlobal> SharedNodes
     }
 }
 
-/// Returns the word for whether a node is alive.
-fn state_word(state: NodeState) -> &'static str
-    ensures { result.now ≡ state_word state }
-{
-    match state {
-        NodeState::Alive => "alive",
-        _ => "dead",
-    }
-}
-
-/// Writes each node with its state.
-fn write_nodes(nodes: &[NodeStatus], text: &mut String) -> Result<(), AllocError>
+/// Writes each node with its standing.
+fn write_nodes(nodes: &[NodeStanding], text: &mut String) -> Result<(), AllocError>
     ensures { OnOk result (string_bytes text.new ≡ string_bytes text.old ++ flat_map node_word nodes.now) }
 {
-    for status in nodes {
-        write_node(*status, text)?;
+    for found in nodes {
+        write_node(*found, text)?;
     }
     Ok(())
 }
 
-fn write_node(status: NodeStatus, text: &mut String) -> Result<(), AllocError>
-    ensures { OnOk result (string_bytes text.new ≡ string_bytes text.old ++ node_word status) }
+fn write_node(found: NodeStanding, text: &mut String) -> Result<(), AllocError>
+    ensures { OnOk result (string_bytes text.new ≡ string_bytes text.old ++ node_word found) }
 {
-    let node = status.node;
-    let state = state_word(status.state);
-    write!(text, " {node},{state}")
+    let node = found.node;
+    let standing = key_word(found.standing);
+    write!(text, " {node},{standing}")
 }
 
 /// Writes the reply of these nodes.
-fn reply_nodes(nodes: &[NodeStatus], text: &mut String) -> Result<(), AllocError>
+fn reply_nodes(nodes: &[NodeStanding], text: &mut String) -> Result<(), AllocError>
     ensures { OnOk result (string_bytes text.new ≡ string_bytes text.old ++ nodes_reply nodes.now) }
 {
     let count = nodes.len();
@@ -91,14 +83,30 @@ fn reply_nodes(nodes: &[NodeStatus], text: &mut String) -> Result<(), AllocError
     text.push_str("\n")
 }
 
-/// Writes the reply to the question which nodes there are: each with its state, or why they can't be had.
+/// Writes the reply to the question which nodes there are: each with its standing in a world, or why they can't be had.
 ///
 /// `AllocError` if there is no memory. The text may then have a part of the reply.
-pub fn answer_nodes<D: SharedNodes>(dead: &D, text: &mut String) -> Result<(), AllocError>
-    ensures { OnOk result (GrowsBy IsNodesReply (string_bytes text.old) (string_bytes text.new)) }
+pub fn answer_nodes<D: SharedNodes>(
+    dead: &D,
+    world: &StoredWorld,
+    text: &mut String,
+) -> Result<(), AllocError>
+    ensures { OnOk result (GrowsBy (IsNodesReply world.now) (string_bytes text.old) (string_bytes text.new)) }
 {
     match dead.statuses() {
-        Ok(nodes) => reply_nodes(&nodes, text),
+        Ok(states) => reply_states(world, &states, text),
         Err(error) => refuse_for(&error, text),
     }
+}
+
+/// Writes the reply of nodes of these states, as they stand in a world.
+fn reply_states(
+    world: &StoredWorld,
+    states: &[NodeStatus],
+    text: &mut String,
+) -> Result<(), AllocError>
+    ensures { OnOk result (GrowsBy (IsNodesReply world.now) (string_bytes text.old) (string_bytes text.new)) }
+{
+    let nodes = standings(*text.allocator(), world, states)?;
+    reply_nodes(&nodes, text)
 }

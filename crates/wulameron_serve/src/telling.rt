@@ -12,12 +12,12 @@ use std::fmt;
 use wulameron_place::claims::{NodeError, NodeFault};
 use wulameron_place::trouble::Trouble;
 
-/// Returns the line that answers nothing: the number of this form of lines, which is 2, and the node. `AllocError` if
+/// Returns the line that answers nothing: the number of this form of lines, which is 3, and the node. `AllocError` if
 /// there is no memory.
 pub fn greeting(alloc: Global, node: u64) -> Result<String, AllocError>
     ensures { IfOk result (λ line. string_bytes line ≡ greeting_of node) }
 {
-    format!(in alloc; "ready 2 {node}\n")
+    format!(in alloc; "ready 3 {node}\n")
 }
 
 /// Writes a line: words, and a leaf after them.

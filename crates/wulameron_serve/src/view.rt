@@ -14,6 +14,7 @@ use iceoryx2_builder::command::Reply;
 use iceoryx2_journal::journal::Journal;
 use iceoryx2_log::call_log::SpansCalls;
 use iceoryx2_session::world_storage::WorldStorage;
+use iceoryx2_table::table::stored::StoredWorld;
 use iceoryx2_testing::traced::Traced;
 use negotiate_serve::reply::describe;
 use std::alloc::AllocError;
@@ -76,6 +77,19 @@ pub trait Viewed: WorldStorage {
     /// and it is ready after a command if it was ready before.
     ghost ready_after: { (first last : SessionOver Self) (c : Command) (answer : declared-reply.Reply)
         → AppliesBy Self.step Self.world first c answer last → ready first.table → ready last.table };
+}
+
+/// A storage whose world can be read.
+pub trait StoresWorld: WorldStorage {
+    /// Returns the world that it shows.
+    fn stored(&self) -> &StoredWorld
+        ensures { result.now ≡ Self.world self.now };
+}
+
+impl<L: SpansCalls> StoresWorld for Journal<L> {
+    fn stored(&self) -> &StoredWorld {
+        self.world()
+    }
 }
 
 // Over a journal a reply is written as it is.

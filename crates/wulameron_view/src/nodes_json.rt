@@ -59,7 +59,7 @@ fn node_value(alloc: Global, node: NodeStanding) -> Result<Value, AllocError>
         &[
             ("alive", alive_or_null(node.standing)),
             ("node", Leaf::Number(node.node)),
-            ("state", Leaf::Word(word_of(node.standing))),
+            ("state", Leaf::Word(key_word(node.standing))),
         ],
     )?;
     Ok(Value::Object(members))
@@ -76,8 +76,8 @@ fn alive_or_null<'a>(standing: Standing) -> Leaf<'a>
     }
 }
 
-/// Returns the word of JSON for a node's standing.
-fn word_of(standing: Standing) -> &'static str
+/// Returns the word for a node's standing that JSON has, and that has no blank.
+pub fn key_word(standing: Standing) -> &'static str
     ensures { result.now ≡ standing_data standing }
 {
     match standing {
