@@ -1,3 +1,4 @@
 pub mod JournalLives
 pub mod Rehearsals
 pub mod Rehearsing
+pub mod WrittenLines
