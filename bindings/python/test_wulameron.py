@@ -211,11 +211,11 @@ class OverLog(unittest.TestCase):
             with self.assertRaises(w.EventOpenError) as refused:
                 session.send(1)
             self.assertEqual(refused.exception.value, "DoesNotSupportRequestedAmountOfListeners")
-            self.assertEqual(session.nodes(), [(0, True), (5, True)])
+            self.assertEqual(session.nodes(), [(0, w.NodeState.ALIVE), (5, w.NodeState.ALIVE)])
             self.assertEqual([entry.nodes for entry in session.entries()], [2])
             other.communicate()
             self.assertEqual([entry.nodes for entry in session.entries()], [1])
-            self.assertEqual(session.nodes(), [(0, False), (5, True)])
+            self.assertEqual(session.nodes(), [(0, w.NodeState.ENDED), (5, w.NodeState.ALIVE)])
             with self.assertRaises(w.WulameronError) as error:
                 session.begin(w.EVENT, w.OPEN, 6, "lamps")
             self.assertIs(error.exception.code, w.Code.OTHER_NODE)

@@ -256,8 +256,11 @@ def rust(it):
         return
     example = target / "debug/examples/meet"
     it.needs(example, is_shared=True)
-    ran = it.ran([example, "log"], folder, WULAMERON_PROGRAM=folder / "none", **it.by_loader)
+    ran = it.ran([example, "log"], folder, WULAMERON=folder / "none", **it.by_loader)
     it.tries("NoProgram" in ran.stderr, "Rust: the example calls the installed library", ran.stderr)
+    ran = it.ran([example, "log"], folder, WULAMERON="", WULAMERON_PROGRAM=folder / "none", **it.by_loader)
+    is_told = "WULAMERON_PROGRAM is now WULAMERON" in ran.stderr
+    it.tries("NoProgram" in ran.stderr and is_told, "Rust: the old name of the variable counts, and is told", ran.stderr)
     linked(it, next(target.glob("debug/build/wulameron-*/build-script-build")), folder)
 
 
