@@ -31,6 +31,7 @@ SOON = {"RES_OPTIONS": "timeout:1 attempts:1"}
 TELLING = """#!/bin/sh
 echo "$@"
 [ "$1" = end ] && exit 7
+[ -n "$PROGRAM_ENDS" ] && exit "$PROGRAM_ENDS"
 [ "$2" = --help ] && exit 0
 questions=${3%%:*} rest=${3#*:} replies=${rest%%:*}
 exec 8>"$questions" 9<"$replies"
@@ -47,7 +48,8 @@ def launched(site, *words, **environment):
     """Runs the launcher on these words, with another program."""
     site.checks.count("processes")
     words = [site.words("list", "none")[0], *words]
-    ran = subprocess.run(words, env=site.environment(**environment), capture_output=True, text=True, timeout=SECONDS)
+    environment = site.environment(**{"WULAMERON_LOG": "postgres:none"} | environment)
+    ran = subprocess.run(words, env=environment, capture_output=True, text=True, timeout=SECONDS)
     return Ran(ran.returncode, ran.stdout.splitlines(), ran.stderr)
 
 
@@ -93,6 +95,7 @@ def told_program(site, room):
     for folder, environment in ((room, {}), ("/usr/bin", {"PATH": f"{room}:{os.environ['PATH']}"})):
         launcher = [str(room / "wulameron-postgres") if folder == room else site.words("x", "x")[0]]
         found = {key: value for key, value in site.environment(**environment).items() if key != "WULAMERON"}
+        found["WULAMERON_LOG"] = "postgres:none"
         ran = subprocess.run([*launcher, "list"], env=found, capture_output=True, text=True, timeout=SECONDS)
         checks.need(ran.returncode == 0 and ran.stdout.startswith("list --psql "), f"by the path {folder}: {ran}")
     # A program that ends before it opens the pipes leaves nothing.
@@ -103,6 +106,31 @@ def told_program(site, room):
     check_launched(site, "no folder for the pipes", ["list"], ["pipes", "/nowhere", "TMPDIR"], TMPDIR="/nowhere")
     ran = launched(site, "list", "--help", WULAMERON=str(program), PGHOST="/nowhere")
     checks.same(ran, Ran(0, ["list --help"], ""), "a help without a server")
+
+
+def words_before(site, room):
+    """The log is named before the command or by a variable; without one in a database, the command is over a file. The
+    launcher's help has the program's commands."""
+    checks, program = site.checks, {"WULAMERON": str(room / "told"), "WULAMERON_LOG": ""}
+    pipes = f"--psql {':'.join([PIPE] * 4)}"
+    ways = {("--at", "postgres:x", "--wait", "9", "list"): f"--at postgres:x --wait 9 list {pipes}",
+            ("--at=postgres:x", "list", "-q"): f"--at postgres:x list {pipes} -q",
+            ("list", "--at=postgres:x"): f"list {pipes} --at=postgres:x"}
+    for words, wanted in ways.items():
+        words = ["-d", DATABASE, *words]
+        ran = launched(site, *words, **program, PROGRAM_ENDS="7")
+        checks.need(ran.status == 7 and not ran.err and re.fullmatch(wanted, ran.out[0]), f"by {words}: {ran}")
+    for words, log in ((["--at", "x", "list"], ""), (["list", "--at=x"], "postgres:x"), (["list"], ""), (["list"], "log")):
+        ran = launched(site, *words, **program | {"WULAMERON_LOG": log}, PROGRAM_ENDS="7", PGHOST="/nowhere")
+        told = "wulameron-postgres: no log in a database is named, as by --at postgres:NAME; `list` uses the log of a file\n"
+        checks.same(ran, Ran(7, [" ".join(words)], told), f"by {words} and {log!r}")
+    if site.is_plain:
+        return
+    ran = launched(site, "--help", WULAMERON=str(site.program), PGHOST="/nowhere")
+    fine = ran.status == 0 and not ran.err and ran.out[0].startswith("usage: wulameron-postgres [-h HOST]")
+    checks.need(fine and any(line.startswith("  clean ") for line in ran.out), f"the launcher's help: {ran}")
+    ran = launched(site, "--help", WULAMERON="/nowhere/wulameron")
+    checks.need(ran.status == 0 and "isn't on the path" in ran.out[-1], f"the launcher's help without a program: {ran}")
 
 
 def children_left(room):
@@ -174,7 +202,8 @@ def server_refused(site, room):
     check("no such host", ["-h", "nowhere.invalid."], "could not translate host name", NO_SERVER, **SOON)
     check("no such database", ["-d", "nothing"], 'database "nothing" does not exist', "createdb", "-d")
     check("no such role", ["-U", "nobody"], 'role "nobody" does not exist', "createuser", "-U")
-    check("a role that may not log in", ["-U", "wulameron_node"], "not permitted to log in", "createuser")
+    wanted = 'role "wulameron_node" is not permitted to log in; let it log in by `alter role "wulameron_node" login`, '
+    check("a role that may not log in", ["-U", "wulameron_node"], wanted)
     server.told("create role secretive login password 'secret' in role wulameron_node")
     server.told("create role limited login connection limit 0 in role wulameron_node")
     server.told("create role refused login in role wulameron_node")
@@ -307,6 +336,7 @@ def errors(site):
     room.mkdir()
     words_refused(site)
     told_program(site, room)
+    words_before(site, room)
     psql_refused(site, room)
     itself_refused(site, room)
     server_refused(site, room)
