@@ -1,8 +1,10 @@
 """Sessions that end while their processes go on: the launcher connects again, and a process has its node and its open
 factories as before. A call within which its session ended is refused, and leaves nothing. A process whose node was
-cleaned up for meanwhile says so and ends. The other parts say what happens without that, by WULAMERON_RECONNECT=0."""
+cleaned up for meanwhile says so and ends. One that waits for its input is ended by the launcher. The other parts say what
+happens without another session, by WULAMERON_RECONNECT=0."""
 import json
 import os
+import pathlib
 import signal
 import time
 
@@ -11,13 +13,15 @@ from postgres.driver import Client
 from postgres.ends import begin, terminate
 from postgres.errors import children_left
 from postgres.server import FAST, IMMEDIATE, IN_COMMIT, OWNER, PAUSE
-from postgres.site import FAULT, Living, check_over, is_refused, session_of
+from postgres.site import FAULT, LOST, Living, check_over, is_refused, session_of
 from postgres.table import replay
 
 # What is told on the standard error: by the launcher, and by a program whose factories others have given back.
 AGAIN, NOT_AGAIN, GONE = "wulameron-postgres: connected again", "wulameron-postgres: not connected again: ", "is gone"
 # For how many seconds a process may try to connect, and where it can't; how soon all is gone that it had.
 LONG, SHORT, SOON = str(SECONDS), "1", 5
+# After how many seconds a process has a watcher.
+WATCHED = 1
 # A role whose sessions are let in, or not.
 PARTED, CLOSED, OPEN = "parted", "alter role parted nologin", "alter role parted login"
 # A sequence counts appends, also those of which nothing comes. At one number the session is ended before its row is in
@@ -100,14 +104,19 @@ def idle(own):
     ways = {
         "its session ended": lambda: own.terminate(process),
         "psql killed": lambda: os.kill(process.psql(), signal.SIGKILL),
-        "a fast restart": lambda: (own.server.stop(FAST), own.server.start()),
-        "an immediate restart": lambda: (own.server.stop(IMMEDIATE), own.server.start()),
+        "a fast restart": lambda: own.server.stop(FAST),
+        "an immediate restart": lambda: own.server.stop(IMMEDIATE),
     }
     services = ["own-1"]
     for slot, (what, way) in enumerate(ways.items()):
         way()
         services.append(f"again-{slot}")
-        own.replies(process, f"event create 1 {slot} {services[-1]}", f"ok {slot} ", what)
+        # A process that has nothing to answer for a second is ended.
+        process.say(f"event create 1 {slot} {services[-1]}")
+        if not own.server.is_running():
+            own.server.start()
+        reply = process.hear()
+        own.checks.need(reply and reply.startswith(f"ok {slot} "), f"{what}: {reply}")
         own.stands(name, services, what)
     own.server.stop(FAST)
     process.say("close 0")
@@ -188,10 +197,49 @@ def held(own):
     own.cleaned("again-hold", "a hold whose session ended")
 
 
+def lost(own):
+    """A process that waits for its input is ended when its session has, also where it is stopped, with one line, which
+    `run --escaped` has on its output too. Its launcher's end is its own."""
+    commands = {"run": ["run"], "stopped": ["run"]}
+    if not own.site.is_plain:
+        commands |= {"escaped": ["run", "--escaped"], "held": ["hold", "event", "create", "held"]}
+    for what, (command, *words) in commands.items():
+        name = f"again-lost-{what}"
+        words = own.site.words(command, name, "--node", "1", *words)
+        process = own.site.living_of(words, name, 1, own.site.environment(**own.environment))
+        if command == "run":
+            process.say("event create 1 0 own-1")
+        process.hear()
+        time.sleep(WATCHED)
+        if what == "stopped":
+            os.kill(process.program(), signal.SIGSTOP)
+        own.terminate(process)
+        began = time.monotonic()
+        ran = process.ended()
+        took = time.monotonic() - began
+        own.checks.need((ran.status, ran.err) == (FAULT, LOST), f"{what}: an idle process whose session ended: {ran}")
+        own.checks.same([line for line in ran.out if line == "lost"], ["lost"] * (what == "escaped"), f"{what}: a last line")
+        own.checks.need(took < SOON, f"{what}: an idle process was ended {took:.1f} seconds after its session")
+        own.cleaned(name, what)
+    process = own.begin("again-orphan")
+    program = process.program()
+    process.kill()
+    own.checks.need(until(lambda: not is_running(program), SOON, PAUSE), "a program goes on without its launcher")
+    own.cleaned("again-orphan", "a launcher that was killed")
+
+
+def is_running(pid):
+    """Whether there is such a process, which hasn't ended."""
+    try:
+        return pathlib.Path(f"/proc/{pid}/stat").read_text(encoding="utf-8").rpartition(")")[2].split()[0] not in "ZX"
+    except OSError:
+        return False
+
+
 def again(site):
     """All of these; and no process or folder is left of them."""
     own = Renewing(site)
-    for part in (idle, within_call, cleaned_up, not_again, *([] if site.is_plain else [held])):
+    for part in (idle, within_call, cleaned_up, not_again, lost, *([] if site.is_plain else [held])):
         part(own)
     own.owner.kill()
     left = lambda: children_left(own.room)

@@ -41,7 +41,7 @@ def begin(site, name, node, **environment):
 def stop_within_hold(process, owner, pid=None):
     """Stops a process, or its psql, at a moment at which it holds. Gives the server's process for its session, and
     nothing where that didn't come about."""
-    pid = pid or process.pid
+    pid = pid or process.program()
     for _ in range(TRIES):
         os.kill(pid, signal.SIGSTOP)
         found = until(lambda: settled(session_of(owner, process)), pause=0.001)
@@ -82,7 +82,7 @@ def stopped(site, owner, is_psql):
     """A process, or its psql, that is stopped while it holds: the server ends its session, and others wait no longer."""
     checks, name = site.checks, f"stopped-{is_psql}".lower()
     process, other = begin(site, name, 1), begin(site, name, 2)
-    pid = process.psql() if is_psql else process.pid
+    pid = process.psql() if is_psql else process.program()
     for attempt in range(ATTEMPTS):
         work(process, 50 if attempt else 400)
         session = stop_within_hold(process, owner, pid)

@@ -151,7 +151,7 @@ def cut_within(near, far, owner):
     renewing.say("event create 2 0 late")
     check_over(checks, doubtful.end(), "cut-append", "a process that was cut off within an append")
     far.machine.mend(far.server.port)
-    os.kill(holding.pid, signal.SIGCONT)
+    os.kill(holding.program(), signal.SIGCONT)
     check_over(checks, holding.end(), "cut-hold", "a process that was cut off within a hold")
     reply = idle.reply("event create 2 0 late")
     checks.need(is_refused(reply), f"the reply to who was cut off: {reply}")

@@ -189,9 +189,13 @@ class Server:
         """Whether it lets a session begin."""
         return self.ask("select 1", database="postgres").returncode == 0
 
+    def is_running(self):
+        """Whether it was started, and hasn't ended."""
+        return self.process is not None and self.process.poll() is None
+
     def stop(self, how=FAST):
         """Ends it, and with it all its sessions."""
-        if self.process and self.process.poll() is None:
+        if self.is_running():
             self.process.send_signal(how)
             self.process.wait(SECONDS)
 

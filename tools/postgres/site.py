@@ -15,10 +15,14 @@ from postgres.server import IMMEDIATE, LAUNCHER, Server
 PLAIN = pathlib.Path(__file__).resolve().parent / "plain"
 # For how many milliseconds a call waits for a log that others hold.
 PATIENCE = 30000
+# What else the launcher has begun.
+NOT_PROGRAMS = ("bash", "setpriv")
 # The commands that take a log or a node, which others may have a moment longer.
 TAKING = ("run", "hold", "clean")
-# How a program ends that can't use its log any more.
+# How a program ends that can't use its log any more, and what the launcher tells where it has ended the program, since that
+# didn't ask for another session in place of one that had ended.
 FAULT = 3
+LOST = "wulameron-postgres: the session was lost, and others may take what this process held; start it again\n"
 # What another session has, and whether it does nothing meanwhile, by the name that it goes under.
 AT_WORK = """select a.state, a.wait_event, a.pid, exists (select from pg_locks l where l.pid = a.pid
     and locktype = 'advisory' and classid = 'wulameron.logs'::regclass and granted), a.state_change
@@ -139,8 +143,12 @@ class Living:
 
     @property
     def pid(self):
-        """Its number."""
+        """The number of the launcher."""
         return self.process.pid
+
+    def program(self):
+        """The process of the program, which the launcher has begun."""
+        return child(self.pid, *NOT_PROGRAMS)
 
     def say(self, *lines):
         """Gives it lines, and reads no reply."""
@@ -179,6 +187,12 @@ class Living:
         self.timer.cancel()
         return Ran(self.process.returncode, out.splitlines(), err)
 
+    def ended(self):
+        """Waits until it has ended while its input is open, and gives what it wrote since then."""
+        self.watch()
+        self.process.wait()
+        return self.end()
+
     def kill(self, how=signal.SIGKILL):
         """Kills it."""
         self.checks.count("kills")
@@ -187,30 +201,32 @@ class Living:
 
     def keeper(self):
         """The process of the launcher's keeper; nothing where there is none."""
-        return child(self.pid, "bash")
+        return child(self.pid, wanted="bash")
 
     def psql(self):
         """The process of its psql, which the keeper has begun; nothing where there is none."""
         keeper = self.keeper()
-        return child(keeper, "psql") if keeper else None
+        return child(keeper, wanted="psql") if keeper else None
 
 
-def child(pid, wanted):
-    """The process that another one has begun, and that runs this program; nothing where there is none."""
+def child(pid, *others, wanted=None):
+    """The process that another one has begun, and that runs this program, or where none is named another one than these;
+    nothing where there is none."""
     for name in filter(str.isdigit, os.listdir("/proc")):
         try:
             stat = pathlib.Path(f"/proc/{name}/stat").read_text(encoding="utf-8", errors="replace")
         except OSError:
             continue
         program, _, rest = stat.partition("(")[2].rpartition(")")
-        if program == wanted and rest.split()[1] == str(pid):
+        fits = program == wanted if wanted else program not in others
+        if fits and rest.split()[1] == str(pid):
             return int(name)
     return None
 
 
 def check_over(checks, ran, name, what):
-    """It ended since its log can't be used any more, and tells that in a line."""
+    """It ended since its log can't be used any more, and tells that in a line, or the launcher tells it."""
     begins = f"wulameron: postgres:{name}: "
-    fine = ran.status == FAULT and ran.err.startswith(begins) and ran.err.count("\n") == 1
+    fine = ran.status == FAULT and (ran.err == LOST or ran.err.startswith(begins) and ran.err.count("\n") == 1)
     checks.count("sessions ended")
     return checks.need(fine, f"{what}: status {ran.status}: {ran.err!r}")
