@@ -149,6 +149,46 @@ static void refusing(void)
     GIVES(WULAMERON_NOT_CLOSED, wulameron_close_session(session));
 }
 
+/* A program that tells that the session was lost, by a reply or unasked: each later call tells so, and what was held. */
+static void lost(void)
+{
+    wulameron_session *session = answered("case $line in event*) echo 'ok 3 number=0';; "
+                                          "plain*5*) echo 'plain ok%205%20number%3D1';; plain*6*) echo 'plain ok%206';; "
+                                          "'close 6') echo 'closed 6';; *) echo lost; exit 3;; esac");
+    struct timespec pause = {0, 600000000};
+    uint64_t number = 7, count = 7;
+    uint32_t refusal = 7;
+    char reply[64];
+    size_t length = 0;
+    GIVES(WULAMERON_OK, wulameron_begin(session, WULAMERON_EVENT, WULAMERON_OPEN, 5, WULAMERON_TEXT("two lamps")));
+    GIVES(WULAMERON_OK, wulameron_send(session, 3, &number, &refusal));
+    GIVES(WULAMERON_OK, wulameron_line(session, WULAMERON_TEXT("event  open 5 5 doors%")));
+    GIVES(WULAMERON_OK, wulameron_line(session, WULAMERON_TEXT("event open 1 6 bells max_nodes=1")));
+    GIVES(WULAMERON_OK, wulameron_close(session, 6));
+    GIVES(WULAMERON_LOST, wulameron_list(session, &count));
+    GIVES(WULAMERON_LOST, wulameron_begin(session, WULAMERON_EVENT, WULAMERON_OPEN, 5, WULAMERON_TEXT("lamps")));
+    GIVES(WULAMERON_LOST, wulameron_close(session, 3));
+    GIVES(WULAMERON_OK, wulameron_get_reply(session, reply, sizeof reply, &length));
+    CHECK(length == 20 && memcmp(reply, "two%20lamps doors%25", 20) == 0 && count == 7);
+    GIVES(WULAMERON_LOST, wulameron_close_session(session));
+    session = answered("echo 'closed 3'; sleep 0.1; echo lost; exit 3");
+    GIVES(WULAMERON_OK, wulameron_close(session, 3));
+    nanosleep(&pause, NULL);
+    GIVES(WULAMERON_LOST, wulameron_begin(session, WULAMERON_EVENT, WULAMERON_OPEN, 5, WULAMERON_TEXT("lamps")));
+    GIVES(WULAMERON_OK, wulameron_get_reply(session, reply, sizeof reply, &length));
+    CHECK(length == 0);
+    GIVES(WULAMERON_LOST, wulameron_close_session(session));
+    /* Another last line, and a front of this one. */
+    session = answered("echo 'closed 3'; sleep 0.1; echo losts; exit 3");
+    GIVES(WULAMERON_OK, wulameron_close(session, 3));
+    nanosleep(&pause, NULL);
+    GIVES(WULAMERON_ENDED, wulameron_close(session, 3));
+    GIVES(WULAMERON_ENDED, wulameron_close_session(session));
+    session = answered("printf lost; exit 3");
+    GIVES(WULAMERON_ENDED, wulameron_close(session, 3));
+    GIVES(WULAMERON_ENDED, wulameron_close_session(session));
+}
+
 /* A program that doesn't end is killed in time. */
 static void endless(void)
 {
@@ -176,6 +216,7 @@ int main(int count, char **words)
     other_replies();
     leaves();
     refusing();
+    lost();
     endless();
     return counted();
 }

@@ -69,7 +69,8 @@ typedef struct {
 /* Starts the program, and reads which node it claimed. Else it has ended, and what is wrong is left as a text. */
 WITHIN uint32_t wulameron_program_start(wulameron_program *program, const char *name, const char *path, uint64_t node,
     wulameron_text *why);
-/* WULAMERON_OK, or why no line is answered any more: WULAMERON_ENDED, or WULAMERON_LOG once that was told. */
+/* WULAMERON_OK, or why no line is answered any more: WULAMERON_ENDED, WULAMERON_LOST, or WULAMERON_LOG once that was
+ * told. */
 WITHIN uint32_t wulameron_program_state(wulameron_program *program);
 /* Sends a line with its end, and reads the line that answers it, without its end. WULAMERON_OUT_OF_MEMORY before it is
  * sent, and then the reply is empty, or after: then the reply has its first 512 bytes. */

@@ -74,13 +74,17 @@ static uint32_t reads_line(wulameron_program *program, wulameron_text *line, siz
     return code;
 }
 
+/* The last line of a program whose session with a database was lost while it waited for a line. */
+static const char lost[] = "lost\n";
+
 uint32_t wulameron_program_state(wulameron_program *program)
 {
-    char byte;
-    ssize_t found = recv(program->stream, &byte, 1, MSG_PEEK | MSG_DONTWAIT);
+    char bytes[sizeof lost];
+    ssize_t found = recv(program->stream, bytes, sizeof bytes, MSG_PEEK | MSG_DONTWAIT);
     int is_quiet = found < 0 && (errno == EAGAIN || errno == EINTR);
+    int is_lost = found == sizeof lost - 1 && memcmp(bytes, lost, sizeof lost - 1) == 0;
     if (program->owner != getpid()) return WULAMERON_ENDED;
-    if (program->over == WULAMERON_OK && !is_quiet) program->over = WULAMERON_ENDED;
+    if (program->over == WULAMERON_OK && !is_quiet) program->over = is_lost ? WULAMERON_LOST : WULAMERON_ENDED;
     return program->over;
 }
 
@@ -91,8 +95,12 @@ uint32_t wulameron_program_ask(wulameron_program *program, const wulameron_text 
     if (!wulameron_has_room(reply, LEAST)) return WULAMERON_OUT_OF_MEMORY;
     for (sent = 0; sent < line->length && moved > 0; sent += moved)
         moved = moves(program, line->bytes + sent, line->length - sent, POLLOUT);
+    /* The program that takes no line any more may have told why before. */
     if (moved > 0) code = reads_line(program, reply, LONGEST);
-    if (code == WULAMERON_ENDED) program->over = code;
+    else code = wulameron_program_state(program);
+    if (code == WULAMERON_OK && reply->length == sizeof lost - 2 && memcmp(reply->bytes, lost, reply->length) == 0)
+        code = WULAMERON_LOST;
+    if (code == WULAMERON_ENDED || code == WULAMERON_LOST) program->over = code;
     return code;
 }
 

@@ -121,6 +121,7 @@ static const char *const code_texts[] = {
     "only a session over a log has nodes",
     "the line is no command",
     "the node is alive",
+    "the session was lost; open again",
 };
 
 #endif

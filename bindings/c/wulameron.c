@@ -21,6 +21,8 @@ struct wulameron_session {
     wulameron_program program;
     char is_over_log, busy;
     wulameron_text texts[TEXTS];
+    /* The names of the services in the slots, as leaves. */
+    wulameron_text held[WULAMERON_SLOTS];
     /* The reply to the last line, and the slot before that which it shows, or 0. */
     part reply;
     uint64_t shown;
@@ -64,10 +66,26 @@ static const setting *setting_of(uint32_t pattern, uint32_t number, uint32_t tak
 
 /* ---- calls */
 
+/* Keeps which services the slots held, as one text. */
+static void keeps_held(wulameron_session *session)
+{
+    wulameron_text *names = &session->texts[LINE];
+    uint32_t k, code = WULAMERON_OK;
+    for (k = names->length = 0; k < WULAMERON_SLOTS && code == WULAMERON_OK; k++) {
+        part name = {session->held[k].bytes, session->held[k].length};
+        if (name.length > 0) code = wulameron_put(names, names->length > 0 ? " *" : "*", name);
+    }
+    session->texts[KEPT].length = 0;
+    if (code == WULAMERON_OK) code = wulameron_put(&session->texts[KEPT], "~", ALL(LINE));
+    session->kept = code;
+    names->length = 0;
+}
+
 /* Leaves with a code. A reply that hasn't the form of one is of no program for sessions, which is asked no more. */
 static uint32_t leaves(wulameron_session *session, uint32_t code)
 {
     if (code == WULAMERON_ENDED) session->program.over = code;
+    if (code == WULAMERON_LOST) keeps_held(session);
     __atomic_clear(&session->busy, __ATOMIC_RELEASE);
     return code;
 }
@@ -191,6 +209,7 @@ static uint32_t gives(SESSION, int what, uint64_t at, uint32_t takes, uint32_t n
         else if (what != ENTRIES && what != NODES) text = session->reply;
         if (code == WULAMERON_OK && takes != 0) code = finds(session, takes, number, index, &text);
         if (code == WULAMERON_OK) code = wulameron_read(text, form, places, LOOKS);
+        if (code == WULAMERON_OK && (what == CLOSE || what == ABANDON)) session->held[at].length = 0;
         (void)leaves(session, code);
     }
     va_end(places);
@@ -263,11 +282,13 @@ uint32_t wulameron_close_session(wulameron_session *session)
     if (begins(session, REPLY, 1) != WULAMERON_OK || leaves(session, code) != code) return WULAMERON_BUSY;
     for (k = 0; session->is_over_log && k < WULAMERON_SLOTS; k++) {
         found = wulameron_close(session, k);
-        if (found == WULAMERON_NOT_CLOSED || found == WULAMERON_LOG || found == WULAMERON_ENDED) code = found;
+        if (found == WULAMERON_NOT_CLOSED || found == WULAMERON_LOG) code = found;
+        if (found == WULAMERON_ENDED || found == WULAMERON_LOST) code = found;
     }
     if (session->is_over_log) code = wulameron_program_end(&session->program, code);
     else code = wulameron_c_close_session(&session->handle);
     for (k = 0; k < TEXTS; k++) free(session->texts[k].bytes);
+    for (k = 0; k < WULAMERON_SLOTS; k++) free(session->held[k].bytes);
     free(session);
     return code;
 }
@@ -360,9 +381,20 @@ HELD(add_attribute, (SESSION, TEXT(key), TEXT(value)), SHOW, IS_GIVEN(key) && IS
     adds(session, PAIRS, " attribute=~:~", GIVEN(key), GIVEN(value)))
 HELD(require_key, (SESSION, TEXT(key)), SHOW, IS_GIVEN(key), adds(session, KEYS, " require_key=~", GIVEN(key), no_name))
 
+/* Keeps over a log which service a slot holds, by its name in a form, or looks whether there is room for that. */
+static int holds(SESSION, uint32_t slot, part name, const char *form)
+{
+    wulameron_text *held = &session->held[slot];
+    if (!session->is_over_log || form != NULL) held->length = 0;
+    if (!session->is_over_log) return 1;
+    if (form == NULL) return wulameron_has_room(held, 3 * name.length + LEAST);
+    return wulameron_put(held, form, name) == WULAMERON_OK;
+}
+
 /* Sends the request, or tells what the slot has where there is none. */
 static uint32_t sends(SESSION, uint32_t slot, uint64_t *number, uint32_t *refusal)
 {
+    part name = ALL(REQUEST);
     uint32_t code;
     if (slot >= WULAMERON_SLOTS) return WULAMERON_NO_SUCH_SLOT;
     if (session->pattern == 0) {
@@ -373,11 +405,16 @@ static uint32_t sends(SESSION, uint32_t slot, uint64_t *number, uint32_t *refusa
     /* A create requires no keys, and events alone have need of a clock, unless they are opened. */
     if (session->how == WULAMERON_CREATE) session->texts[KEYS].length = 0;
     if (session->how == WULAMERON_OPEN || session->pattern != WULAMERON_EVENT) session->texts[CLOCK].length = 0;
+    /* A blank stands before the name, and before each setting. */
+    (void)wulameron_cut(&name, ' ');
+    name = wulameron_cut(&name, ' ');
+    if (!holds(session, slot, name, NULL)) return WULAMERON_OUT_OF_MEMORY;
     code = asks(session, wulameron_put(&session->texts[LINE], "$ $ # #****\n", patterns[session->pattern],
         hows[session->how], session->node, THIS, ALL(REQUEST), ALL(PAIRS), ALL(KEYS), ALL(CLOCK)));
     if (code != WULAMERON_OK) return code;
     if (wulameron_matches(session->reply, "refused + _", refusal)) code = WULAMERON_REFUSED;
     else if (!wulameron_matches(session->reply, "ok @ number=#", THIS, number)) return WULAMERON_ENDED;
+    if (code == WULAMERON_OK) (void)holds(session, slot, name, "*");
     session->pattern = 0;
     return code;
 }
@@ -432,11 +469,40 @@ CALL(clean, (SESSION, uint64_t node, uint32_t dry_run, uint64_t *nodes, uint64_t
 
 /* ---- lines and texts */
 
+/* The next word of a plain line. */
+static part word_of(part *line)
+{
+    part word = wulameron_cut(line, ' ');
+    while (word.length == 0 && line->length > 0) word = wulameron_cut(line, ' ');
+    return word;
+}
+
+/* The slot that a plain line names, or WULAMERON_SLOTS, and the name that it gives, of a call alone. */
+static uint32_t named_by(part line, part *name)
+{
+    int is_close = wulameron_is(word_of(&line), "close");
+    uint64_t number;
+    if (!is_close) (void)word_of(&line);
+    if (!is_close) (void)word_of(&line);
+    if (!wulameron_matches(word_of(&line), "#", &number) || number >= WULAMERON_SLOTS) return WULAMERON_SLOTS;
+    *name = is_close ? no_name : word_of(&line);
+    return (uint32_t)number;
+}
+
+static int begins_with(part text, const char *front)
+{
+    return text.length >= strlen(front) && memcmp(text.at, front, strlen(front)) == 0;
+}
+
 /* Has a line answered that is given. */
 static uint32_t carries_out(SESSION, part line)
 {
-    uint32_t code = asks(session, wulameron_put(&session->texts[LINE], "plain ~\n", line));
-    part leaf;
+    part leaf, name = no_name;
+    uint32_t code, slot = named_by(line, &name);
+    if (slot < WULAMERON_SLOTS && !holds(session, slot, name, NULL)) return WULAMERON_OUT_OF_MEMORY;
+    code = asks(session, wulameron_put(&session->texts[LINE], "plain ~\n", line));
+    if (slot < WULAMERON_SLOTS && begins_with(session->reply, name.length > 0 ? "plain ok%20" : "plain closed%20"))
+        (void)holds(session, slot, name, name.length > 0 ? "~" : "*");
     if (wulameron_matches(session->reply, "plain *", &leaf)) return keeps(session, leaf, WULAMERON_OK);
     if (wulameron_matches(session->reply, "wrong *", &leaf)) return keeps(session, leaf, WULAMERON_BAD_LINE);
     return code == WULAMERON_OK ? WULAMERON_ENDED : code;

@@ -79,6 +79,7 @@ typedef struct wulameron_session wulameron_session;
 #define WULAMERON_ONLY_OVER_LOG 30u   /* a table has no nodes of its own, and nothing to clean up */
 #define WULAMERON_BAD_LINE 31u        /* the line is no command: wulameron_get_reply tells what is wrong with it */
 #define WULAMERON_NODE_ALIVE 32u      /* nothing is given back for it */
+#define WULAMERON_LOST 33u            /* the session was lost; open again: wulameron_get_reply tells what was held */
 
 /* Patterns, and how a service is wanted. */
 #define WULAMERON_EVENT 1u
@@ -179,7 +180,7 @@ uint32_t wulameron_open_log(uint32_t version, const char *program, const char *p
     wulameron_session **out, char *message, size_t size, size_t *length);
 /* Closes what each slot holds, ends the program that holds the session, and frees the session. Null is done already.
  * WULAMERON_NOT_CLOSED where a slot's service couldn't be closed, WULAMERON_LOG where the log was at fault, and
- * WULAMERON_ENDED where the program had ended before; the session is freed all the same. */
+ * WULAMERON_ENDED or WULAMERON_LOST where the program had ended before; the session is freed all the same. */
 uint32_t wulameron_close_session(wulameron_session *session);
 
 /* ---- the request. A session has at most one: begin drops the last one, send takes it, and a call that isn't done
@@ -254,8 +255,9 @@ uint32_t wulameron_get_entry_hash(wulameron_session *session, uint64_t index, ui
 
 /* Carries out a line, without its end: WULAMERON_OK where it is a command, also one that is refused. */
 uint32_t wulameron_line(wulameron_session *session, const char *line, size_t length);
-/* The reply to the last line; after WULAMERON_BAD_LINE what is wrong with it, and after WULAMERON_LOG what is wrong
- * with the log. It stands until the next of these. WULAMERON_OUT_OF_MEMORY where there was no memory for it. */
+/* The reply to the last line; after WULAMERON_BAD_LINE what is wrong with it, after WULAMERON_LOG what is wrong with
+ * the log, and after WULAMERON_LOST the names of the services that were held, as leaves with blanks between them
+ * (docs/PROGRAM.md). It stands until the next of these. WULAMERON_OUT_OF_MEMORY where there was no memory for it. */
 uint32_t wulameron_get_reply(wulameron_session *session, char *output, size_t size, size_t *length);
 
 /* ---- nodes, over a log alone: over a table WULAMERON_ONLY_OVER_LOG */

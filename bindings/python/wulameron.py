@@ -21,6 +21,7 @@ import ctypes
 import enum
 import os
 import pathlib
+import urllib.parse
 from types import TracebackType
 from typing import NamedTuple
 
@@ -114,6 +115,7 @@ class Code(enum.IntEnum):
     ONLY_OVER_LOG = 30
     BAD_LINE = 31
     NODE_ALIVE = 32
+    LOST = 33
 
 
 class WulameronError(Exception):
@@ -124,6 +126,14 @@ class WulameronError(Exception):
         super().__init__(f"{text}: {message}" if message else text)
         self.code = Code(code)
         self.message = message
+
+
+class SessionLost(WulameronError):
+    """The session with a database was lost: close this one, and open another. `services` has the names that were held."""
+
+    def __init__(self, leaves: str) -> None:
+        self.services = [urllib.parse.unquote(leaf) for leaf in leaves.split()]
+        super().__init__(Code.LOST, ", ".join(self.services))
 
 
 class Refused(WulameronError):
@@ -270,6 +280,7 @@ class Session:
         self, path: str | os.PathLike[str] | None = None, *, node: int | None = None, program: str | None = None
     ) -> None:
         self._session = ctypes.c_void_p()
+        self._was_told_lost = False
         if path is None:
             _done(_LIBRARY.wulameron_open_table(_u32(VERSION), ctypes.byref(self._session)))
             return
@@ -298,15 +309,22 @@ class Session:
     def close_session(self) -> None:
         """Closes what each slot holds, and the session."""
         session, self._session = self._session, ctypes.c_void_p()
-        _done(_LIBRARY.wulameron_close_session(session))
+        code = _LIBRARY.wulameron_close_session(session)
+        if code != Code.LOST or not self._was_told_lost:
+            _done(code)
 
     def _call(self, name: str, *words: object) -> int:
         return getattr(_LIBRARY, f"wulameron_{name}")(self._session, *words)
 
-    def _does(self, name: str, *words: object) -> None:
-        code = self._call(name, *words)
+    def _checked(self, code: int) -> None:
+        if code == Code.LOST:
+            self._was_told_lost = True
+            raise SessionLost(self._reply())
         if code != Code.OK:
             raise WulameronError(code, self._reply() if code in (Code.LOG, Code.BAD_LINE) else "")
+
+    def _does(self, name: str, *words: object) -> None:
+        self._checked(self._call(name, *words))
 
     def _text(self, name: str, *words: object) -> _Bytes:
         length = _SIZE()
@@ -316,7 +334,7 @@ class Session:
         while code == Code.TOO_SMALL:
             place = ctypes.create_string_buffer(length.value)
             code = self._call(name, *words, place, length, ctypes.byref(length))
-        _done(code)
+        self._checked(code)
         return place.raw[: length.value]
 
     def _reply(self) -> str:
@@ -367,8 +385,7 @@ class Session:
         code = self._call("send", _u32(slot), ctypes.byref(number), ctypes.byref(refusal))
         if code == Code.REFUSED:
             raise _REFUSALS[refusal.value // 1000 - 1](refusal.value)
-        if code != Code.OK:
-            raise WulameronError(code, self._reply() if code == Code.LOG else "")
+        self._checked(code)
         return number.value
 
     def close(self, slot: int) -> None:
@@ -387,7 +404,7 @@ class Session:
         code = self._call("get_number", _u32(slot), _u32(setting), ctypes.byref(value))
         if code == Code.NONE:
             return None
-        _done(code)
+        self._checked(code)
         return value.value
 
     def duration(self, slot: int, setting: int) -> tuple[int, int] | None:
@@ -398,7 +415,7 @@ class Session:
         )
         if code == Code.NONE:
             return None
-        _done(code)
+        self._checked(code)
         return seconds.value, nanoseconds.value
 
     def type_of(self, slot: int, part: int) -> tuple[int, str, int, int]:

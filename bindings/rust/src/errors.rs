@@ -7,7 +7,8 @@ use std::fmt;
 #[derive(Clone, Debug, PartialEq, Eq)]
 pub struct Failure {
     pub code: Code,
-    /// What is wrong with the log or the program, else empty.
+    /// What is wrong with the log or the program, and the names of the services that were held where the session was lost, as
+    /// leaves with blanks between them; else empty.
     pub message: String,
 }
 
@@ -49,7 +50,7 @@ codes! {
     Null 1 Busy 2 VersionDiffers 3 OutOfMemory 4 NotUtf8 6 BadName 7 BadValue 8 BadType 9 BadAttribute 10 TooMany 11
     UnknownSetting 12 UnknownPattern 13 UnknownCall 14 NoRequest 15 NoSuchSlot 16 SlotInUse 17 SlotEmpty 18
     NoSuchItem 19 NotClosed 21 OtherNode 25 Log 26 Ended 27 NoProgram 28 NodeInUse 29 OnlyOverLog 30 BadLine 31
-    NodeAlive 32 NoFreeSlot 100
+    NodeAlive 32 Lost 33 NoFreeSlot 100
 }
 
 /// The errors of a call, by its pattern and by what it is.

@@ -50,10 +50,10 @@ struct Session {
 }
 
 impl Session {
-    /// What a code stands for, and with a fault of the log or of a line what is wrong with it.
+    /// What a code stands for, and with a fault of the log or of a line what is wrong with it, or what was held.
     fn failure(&self, code: u32) -> Failure {
         let reply = |output, size, length| call!(wulameron_get_reply, self.pointer, output, size, length);
-        let has_message = code == raw::LOG || code == raw::BAD_LINE;
+        let has_message = [raw::LOG, raw::BAD_LINE, raw::LOST].contains(&code);
         let message = if has_message { raw::bytes(reply).unwrap_or_default() } else { Vec::new() };
         Failure { message: String::from_utf8_lossy(&message).into_owned(), ..code.into() }
     }

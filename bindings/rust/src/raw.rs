@@ -10,6 +10,7 @@ pub const REFUSED: u32 = 20;
 pub const NONE: u32 = 22;
 pub const LOG: u32 = 26;
 pub const BAD_LINE: u32 = 31;
+pub const LOST: u32 = 33;
 /// The states of a node whose process is alive, and of one whose process is gone and left something.
 pub const ALIVE: u32 = 1;
 pub const DEAD: u32 = 2;
