@@ -1,4 +1,4 @@
--- Logs of Wulameron in a database, version 1: the tables, what guards them, and the role of the nodes.
+-- Logs of Wulameron in a database, version 2: the tables, what guards them, and the role of the nodes.
 --
 -- Run it once, as the owner of a database of its own who may make roles (or for whom wulameron_node was made):
 --
@@ -35,11 +35,21 @@ create table wulameron.entries (
     primary key (log, generation, seq)
 );
 
--- Each node that was ever claimed. A node is alive as long as some session has the lock of its `id`.
+-- Each node that was ever claimed. A node is alive as long as some session has the lock of its `id`. If the session ends, the
+-- node's process has to learn that before others take what the node has. So the node is lost at first: nobody but its
+-- process gets its lock. It is lost for three seconds from `lost_since`, when somebody first found that no session has the
+-- lock. That is by this server's clock, and doesn't count if another start of a server found it, as after a restart or a
+-- failover: `found_by` is when that began. `lost_since` is minus infinity if the node was given back in order, and null as long
+-- as nobody has found that. `process` is what wulameron.process was in the session that claimed the node last, which was its
+-- claim number `claims`.
 create table wulameron.nodes (
-    log  int         not null references wulameron.logs,
-    node numeric(20) not null check (node between 0 and 18446744073709551615),
-    id   int         generated always as identity unique,
+    log        int         not null references wulameron.logs,
+    node       numeric(20) not null check (node between 0 and 18446744073709551615),
+    id         int         generated always as identity unique,
+    process    text,
+    claims     bigint      not null default 0,
+    lost_since timestamptz default '-infinity',
+    found_by   timestamptz default pg_postmaster_start_time(),
     primary key (log, node)
 );
 
@@ -146,7 +156,7 @@ begin
     if makes then
         perform wulameron.made(opened.name);
     end if;
-    return query select concat_ws(' ', 1, l.log, l.generation, l.counter, l.snapshot, encode(e.chain, 'hex'))
+    return query select concat_ws(' ', 2, l.log, l.generation, l.counter, l.snapshot, encode(e.chain, 'hex'))
         from wulameron.logs l join wulameron.entries e on e.log = l.log and e.generation = l.generation and e.seq = 0
         where l.name = opened.name;
 end
@@ -212,29 +222,78 @@ begin
 end
 $$;
 
--- True if this session has the node from now on. False if a session has it, this one or another; `waits` says whether
--- to wait for another's end as long as lock_timeout.
+-- For how many seconds more a node that no session has is lost to this session: not at all to the process that had it last,
+-- and not if wulameron.now is on.
+create function wulameron.lost_for(id int) returns double precision language sql stable
+    set search_path = pg_catalog, pg_temp as $$
+    select case
+            when current_setting('wulameron.now', true) = 'on' then 0
+            when n.process = nullif(current_setting('wulameron.process', true), '') then 0
+            when n.lost_since is null or n.found_by is distinct from pg_postmaster_start_time() then 3
+            when n.lost_since = '-infinity' then 0
+            else least(3, 3 - extract(epoch from clock_timestamp() - n.lost_since))
+        end
+        from wulameron.nodes n where n.id = lost_for.id
+$$;
+
+-- Writes down when nodes of a log were first found lost. A session that may only read can't. Rows that another session
+-- writes are left to that.
+create function wulameron.find_lost(log int) returns void language plpgsql
+    set search_path = pg_catalog, pg_temp as $$
+begin
+    if current_setting('transaction_read_only')::boolean then
+        return;
+    end if;
+    update wulameron.nodes set lost_since = clock_timestamp(), found_by = pg_postmaster_start_time()
+        where id in (
+            select n.id from wulameron.nodes n where n.log = find_lost.log
+            and (n.lost_since is null or n.found_by is distinct from pg_postmaster_start_time())
+            and n.id not in (select wulameron.locked('wulameron.nodes', false))
+            for update skip locked
+        );
+end
+$$;
+
+-- True if this session has the node from now on. It waits for as long as the node is lost. False if a session has it, this
+-- one or another; `waits` says whether to wait for another's end as long as lock_timeout.
 create function wulameron.claim(name text, node numeric, waits boolean) returns boolean language plpgsql
     security definer set search_path = pg_catalog, pg_temp as $$
 declare
-    lock int;
+    lock   int;
+    rest   double precision;
+    before bigint;
+    now    bigint;
 begin
     perform wulameron.no_replica();
     lock := wulameron.node_id(claim.name, claim.node);
     if lock in (select wulameron.locked('wulameron.nodes', true)) then
         return false;
     end if;
-    if claim.waits then
-        perform pg_advisory_lock('wulameron.nodes'::regclass::oid::int, lock);
-        return true;
-    end if;
-    return pg_try_advisory_lock('wulameron.nodes'::regclass::oid::int, lock);
+    loop
+        if claim.waits then
+            perform pg_advisory_lock('wulameron.nodes'::regclass::oid::int, lock);
+        elsif not pg_try_advisory_lock('wulameron.nodes'::regclass::oid::int, lock) then
+            return false;
+        end if;
+        -- The node's own process may come back meanwhile. If nobody has, the node was lost for that long.
+        select n.claims into now from wulameron.nodes n where n.id = lock;
+        exit when now = before;
+        before := now;
+        rest := wulameron.lost_for(lock);
+        exit when rest <= 0;
+        perform pg_advisory_unlock('wulameron.nodes'::regclass::oid::int, lock);
+        perform pg_sleep(rest);
+    end loop;
+    update wulameron.nodes set process = nullif(current_setting('wulameron.process', true), ''), claims = claims + 1,
+        lost_since = null, found_by = null where id = lock;
+    return true;
 exception when lock_not_available then
     return false;
 end
 $$;
 
--- Claims the lowest node from 0 to 65535 that no session has, and tells its number; no row if there is none.
+-- Claims the lowest node from 0 to 65535 that no session has and that isn't lost, and tells its number; no row if there is
+-- none.
 create function wulameron.claim_free(name text) returns setof text language plpgsql
     security definer set search_path = pg_catalog, pg_temp as $$
 declare
@@ -247,7 +306,7 @@ begin
         select s.node from generate_series(0, 65535) as s (node)
         where not exists (
             select from wulameron.nodes n where n.log = found_log and n.node = s.node
-            and n.id in (select wulameron.locked('wulameron.nodes', false))
+            and (n.id in (select wulameron.locked('wulameron.nodes', false)) or wulameron.lost_for(n.id) > 0)
         )
         order by s.node
     loop
@@ -259,7 +318,7 @@ begin
 end
 $$;
 
--- Gives this session's claim of the node back. False if it had none.
+-- Gives this session's claim of the node back in order: the node isn't lost. False if it had none.
 create function wulameron.release(name text, node numeric) returns boolean language plpgsql
     security definer set search_path = pg_catalog, pg_temp as $$
 declare
@@ -268,10 +327,18 @@ begin
     select n.id into lock from wulameron.nodes n join wulameron.logs l using (log)
         where l.name = release.name and n.node = release.node;
     if found and lock in (select wulameron.locked('wulameron.nodes', true)) then
+        update wulameron.nodes set lost_since = '-infinity', found_by = pg_postmaster_start_time() where id = lock;
         return pg_advisory_unlock('wulameron.nodes'::regclass::oid::int, lock);
     end if;
     return false;
 end
+$$;
+
+-- Gives all of this session's claims back in order when it ends. So it is told that the program has ended whose nodes they are.
+create function wulameron.give_back() returns void language sql
+    security definer set search_path = pg_catalog, pg_temp as $$
+    update wulameron.nodes set lost_since = '-infinity', found_by = pg_postmaster_start_time()
+        where id in (select wulameron.locked('wulameron.nodes', true))
 $$;
 
 -- `NODE alive` or `NODE dead` of each node that was ever claimed, by rising number.
@@ -279,6 +346,7 @@ create function wulameron.nodes(name text) returns setof text language plpgsql
     security definer set search_path = pg_catalog, pg_temp as $$
 begin
     perform wulameron.no_replica();
+    perform wulameron.find_lost(l.log) from wulameron.logs l where l.name = nodes.name;
     return query select n.node || case
             when n.id in (select wulameron.locked('wulameron.nodes', false)) then ' alive' else ' dead' end
         from wulameron.nodes n join wulameron.logs l using (log) where l.name = nodes.name order by n.node;
@@ -316,6 +384,6 @@ grant select on wulameron.logs, wulameron.entries, wulameron.nodes to wulameron_
 grant insert (log, generation, seq, bytes) on wulameron.entries to wulameron_node;
 grant execute on function wulameron.opened(text, boolean), wulameron.go_on(int, bigint, bigint), wulameron.let_go(int),
     wulameron.claim(text, numeric, boolean), wulameron.claim_free(text), wulameron.release(text, numeric),
-    wulameron.nodes(text) to wulameron_node;
+    wulameron.give_back(), wulameron.nodes(text) to wulameron_node;
 
 commit;

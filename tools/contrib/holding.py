@@ -155,7 +155,7 @@ class Unit:
         text = path.read_text(encoding="utf-8").replace("/usr/local/bin/", f"{programs}/")
         self.text = text.replace("%t", str(runtime)).replace("%i", "lamps")
         self.environment = dict(value.split("=", 1) for value in self.values("Environment"))
-        self.environment |= {"NODE": "1", "CALL": call, "PATH": f"{programs}:{os.environ['PATH']}", "WULAMERON": ""}
+        self.environment |= {"NODE": "1", "CALL": call, "PATH": f"{programs}:{os.environ['PATH']}"}
         self.checks, self.log = checks, Log(checks, self.environment["WULAMERON_LOG"])
 
     def values(self, name):

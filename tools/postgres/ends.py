@@ -1,5 +1,6 @@
 """Sessions that end: a process that is stopped while it holds, psql that is killed, the server's process for a session,
 also within COMMIT, and a server that is restarted. What was answered is in the table, and the others go on."""
+import contextlib
 import os
 import signal
 import time
@@ -95,16 +96,22 @@ def stopped(site, owner, is_psql):
         if not left or holds(left):
             break
         # What was on its way has let go.
-        os.kill(pid, signal.SIGCONT)
+        go_on(pid)
     checks.need(reply and reply.startswith("ok "), f"while another is stopped within a hold: {reply}")
     checks.need(waited < WAITED, f"while another is stopped within a hold, a call took {waited:.1f} seconds")
     checks.same(left, None, "the session of a process that is stopped within a hold")
     checks.same(site.server.reason(session), IDLE, "why the session ended of a process that is stopped within a hold")
-    os.kill(pid, signal.SIGCONT)
+    go_on(pid)
     check_over(checks, process.end(), name, "a process that was stopped within a hold")
     ran = other.end()
     checks.need(ran.status == 0 and not ran.err, f"the other process: {ran}")
     check_rest(site, name, "after a stop within a hold", (1, 2))
+
+
+def go_on(pid):
+    """Has a process go on that was stopped, unless its launcher has ended it."""
+    with contextlib.suppress(ProcessLookupError):
+        os.kill(pid, signal.SIGCONT)
 
 
 def terminate(owner, pid):

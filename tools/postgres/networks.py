@@ -1,16 +1,14 @@
 """Two network namespaces as two machines, each with an address of its own, and a third one as the server's. The link of
 one is cut within a hold, within an append and after it, for longer than the keepalives."""
 import contextlib
-import os
 import secrets
-import signal
 import subprocess
 import time
 
 from postgres.again import AGAIN, LONG
 from postgres.checks import until
 from postgres.driver import Client
-from postgres.ends import ENDED, IDLE, WAITED, begin, check_rest, holds, stop_within_hold, work
+from postgres.ends import ENDED, IDLE, WAITED, begin, check_rest, go_on, holds, stop_within_hold, work
 from postgres.server import IN_COMMIT, OWNER, PAUSE, Server
 from postgres.site import check_over, is_refused, session_of
 from postgres.table import replay
@@ -136,6 +134,8 @@ def cut_within(near, far, owner):
     checks.need(sessions["a hold"], "a process wasn't stopped within a hold")
     began = time.monotonic()
     far.machine.cut()
+    # One that has nothing to answer is ended as soon as it is known that the link is cut.
+    renewing.say("event create 2 0 late")
     checks.count("cuts within a hold", holds(session_of(owner, holding) or ENDED))
     alive = server.told("select wulameron.nodes('cut-idle')")
     if time.monotonic() - began < ALIVE:
@@ -148,10 +148,10 @@ def cut_within(near, far, owner):
     checks.need(not server.wait_dead("cut-idle"), "a node that is cut off is alive")
     meanwhile(near, "cut-idle", "while another is cut off")
     checks.need(not server.wait_dead("cut-again"), "another node that is cut off is alive")
-    renewing.say("event create 2 0 late")
     check_over(checks, doubtful.end(), "cut-append", "a process that was cut off within an append")
     far.machine.mend(far.server.port)
-    os.kill(holding.program(), signal.SIGCONT)
+    if program := holding.program():
+        go_on(program)
     check_over(checks, holding.end(), "cut-hold", "a process that was cut off within a hold")
     reply = idle.reply("event create 2 0 late")
     checks.need(is_refused(reply), f"the reply to who was cut off: {reply}")

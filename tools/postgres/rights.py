@@ -8,11 +8,13 @@ import time
 from postgres import texts
 from postgres.checks import until
 from postgres.driver import BUSY, Client, Ended, Log, Other
-from postgres.server import OWNER, PAUSE
+from postgres.server import FAST, OWNER, PAUSE
 
 DATA = [b"one", b"two", b"three"]
 # For how many milliseconds is waited for what another has, where that is tried, and where it comes.
 PATIENCE, LONG = 300, 30000
+# By how many seconds a wait may be longer on a slow machine.
+MARGIN = 1.5
 LONGEST = 1048592
 # What the role of the nodes may not do, and with which state it is refused.
 FORBIDDEN = {
@@ -24,6 +26,9 @@ FORBIDDEN = {
     "delete from wulameron.logs": "42501",
     "insert into wulameron.nodes (log, node) values (1, 1)": "42501",
     "delete from wulameron.nodes": "42501",
+    "update wulameron.nodes set lost_since = null": "42501",
+    "select wulameron.lost_for(1)": "42501",
+    "select wulameron.find_lost({log})": "42501",
     "insert into wulameron.entries values ({log}, 0, 4, 'x', sha256('x'))": "42501",
     "update wulameron.entries set chain = sha256('x')": "42501",
     "insert into wulameron.entries (log, generation, seq, bytes) values ({log}, 0, 3, 'x')": "23505",
@@ -81,7 +86,7 @@ def questions(checks, server):
         same(one.ask(texts.opening("rights", False, PATIENCE), "opened"), ["opened 00000"], "opening no log")
         told = one.ask(texts.opening("rights", True, PATIENCE), "opened")
         log, chain = told[0].split(" ")[1], told[0].split(" ")[5]
-        same(told, [f"1 {log} 0 1 0 {chain}", "opened 00000"], "opening")
+        same(told, [f"2 {log} 0 1 0 {chain}", "opened 00000"], "opening")
         one.call("set idle_in_transaction_session_timeout = 0")
         same(other.ask(texts.opening("rights", False, PATIENCE), "opened"), told, "opening it again")
         same(other.ask(texts.reopening("rights"), "opened"), told, "reopening")
@@ -251,6 +256,78 @@ def claims(checks, server):
             same(ask(other, texts.opening(name, True, PATIENCE), "opened")[-1], "opened 00000", f"the name {name!r}")
 
 
+def of_process(server, process):
+    """A session of a process, as the launcher names it to the server."""
+    return Client(server.environment(PGOPTIONS=f"-c wulameron.process={process}"))
+
+
+def took(session, node, waits):
+    """Has a session claim a node: what it is told, and for how many seconds it waited."""
+    begin = time.monotonic()
+    told = session.ask(texts.claiming("lost", node, waits), "claimed")[0]
+    return told, time.monotonic() - begin
+
+
+def lose(checks, server, nodes):
+    """Has sessions claim these nodes, each of a process of its own, and end, and others find them lost."""
+    sessions = {node: of_process(server, f"own-{node}") for node in nodes}
+    for node, session in sessions.items():
+        checks.same(took(session, node, False)[0], "t", f"a claim of node {node}")
+    pids = [pid_of(session) for session in sessions.values()]
+    for session in sessions.values():
+        session.kill()
+    checks.need(server.wait_gone(pids), "sessions of psql that was killed aren't ended")
+
+
+def lost(checks, server):
+    """A node whose session has ended is lost for three seconds from when that was found: only its own process gets it then,
+    and whoever won't wait. One that was given back in order is free."""
+    near = lambda seconds, wanted: wanted - 0.2 < seconds < wanted + MARGIN
+    lose(checks, server, range(1, 8))
+    own, now, other, third, fourth, back = (of_process(server, name) for name in ("own-1", "x", "y", "z", "w", "own-6"))
+    now.call("set wulameron.now = on")
+    found, begin = server.told("select wulameron.nodes('lost')"), time.monotonic()
+    checks.same(found, [f"{node} dead" for node in range(1, 8)], "nodes that were lost")
+    checks.same(other.ask(texts.claiming_free("lost"), "claimed")[0], "0", "the lowest node that isn't lost")
+    for session, node, whose in ((own, 1, "its own process"), (now, 2, "one that won't wait")):
+        told, seconds = took(session, node, True)
+        checks.need(told == "t" and near(seconds, 0), f"a lost node, claimed by {whose}: {told} after {seconds:.2f} seconds")
+    for session, node, waits in ((other, 3, True), (third, 4, False), (fourth, 6, False)):
+        session.say(texts.claiming("lost", node, waits))
+    time.sleep(1)
+    told, seconds = took(back, 6, True)
+    checks.need(told == "t" and near(seconds, 0), f"a lost node whose process comes back: {told} after {seconds:.2f} seconds")
+    for session, wanted in ((other, "t"), (third, "t"), (fourth, "f")):
+        told, seconds = session.hear("claimed")[0], time.monotonic() - begin
+        checks.need(told == wanted and near(seconds, 3), f"a claim of a lost node: {told} after {seconds:.2f} seconds")
+    told, seconds = took(now, 5, False)
+    checks.need(told == "t" and near(seconds, 0), f"a node that is lost no more: {told} after {seconds:.2f} seconds")
+    checks.same(now.ask(texts.releasing("lost", 5), "released")[0], "t", "a release")
+    fourth.call("select wulameron.give_back()")
+    checks.same(took(fourth, 8, False)[0], "t", "a claim of node 8")
+    fourth.call("select wulameron.give_back()")
+    pid = pid_of(fourth)
+    fourth.kill()
+    checks.need(server.wait_gone([pid]), "the session of psql that was killed isn't ended")
+    for node in (5, 8):
+        told, seconds = took(third, node, False)
+        checks.need(told == "t" and near(seconds, 0), f"node {node}, which was given back: {told} after {seconds:.2f} seconds")
+    # Another start of the server may not know of claims since it was written down that a node is lost.
+    checks.same(now.ask(texts.releasing("lost", 2), "released")[0], "t", "a release")
+    for session in (own, now, other, third, back):
+        session.kill()
+    server.stop(FAST)
+    server.start()
+    asking = of_process(server, "another")
+    asking.say(texts.claiming("lost", 7, False))
+    for session, node, wanted in ((of_process(server, "v"), 2, 3), (of_process(server, "own-6"), 6, 0)):
+        told, seconds = took(session, node, False)
+        checks.need(told == "t" and near(seconds, wanted), f"node {node} after a restart: {told} after {seconds:.2f} seconds")
+        session.kill()
+    checks.same(asking.hear("claimed")[0], "t", "a lost node after a restart")
+    asking.kill()
+
+
 def at_once(checks, server, count=12):
     """Many make one log at once, and take nodes of another one."""
     with clients(server, count) as found:
@@ -283,7 +360,7 @@ def forbidden(checks, server):
 def rights(site):
     """All of these."""
     checks, server = site.checks, site.server
-    for part in (questions, pieces, stopped, generations, forgetting, claims, at_once, forbidden):
+    for part in (questions, pieces, stopped, generations, forgetting, claims, lost, at_once, forbidden):
         try:
             part(checks, server)
         except (Ended, Other, AssertionError) as error:

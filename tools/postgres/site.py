@@ -44,6 +44,8 @@ class Site:
     def __init__(self, checks, program, programs, room):
         self.checks, self.program, self.programs, self.room = checks, program, programs, room
         self.servers, self.server = [], None
+        # Of how many idle holders the session ends.
+        self.ends = 0
         # Whether some processes of a storm are the plain driver.
         self.is_mixed = False
 
@@ -73,8 +75,8 @@ class Site:
         return self.program == PLAIN
 
     def environment(self, server=None, **others):
-        """That of the launcher. Nothing connects again where nothing else is said."""
-        own = {"WULAMERON": str(self.program), "WULAMERON_RECONNECT": "0"}
+        """That of the launcher. Nothing connects again, and nothing waits while a node is lost, where nothing else is said."""
+        own = {"WULAMERON": str(self.program), "WULAMERON_RECONNECT": "0", "PGOPTIONS": "-c wulameron.now=on"}
         return (server or self.server).environment(**own | others)
 
     def words(self, command, name, *words):
