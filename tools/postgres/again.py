@@ -217,7 +217,7 @@ def lost(own):
         began = time.monotonic()
         ran = process.ended()
         took = time.monotonic() - began
-        own.checks.need((ran.status, ran.err) == (FAULT, LOST), f"{what}: an idle process whose session ended: {ran}")
+        own.checks.need((ran.status, ran.err) == (FAULT, LOST.format(name)), f"{what}: an idle process whose session ended: {ran}")
         own.checks.same([line for line in ran.out if line == "lost"], ["lost"] * (what == "escaped"), f"{what}: a last line")
         own.checks.need(took < SOON, f"{what}: an idle process was ended {took:.1f} seconds after its session")
         own.cleaned(name, what)

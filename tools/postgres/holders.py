@@ -59,6 +59,7 @@ class Holder:
 
     def __init__(self, place, words, environment, name, is_caller):
         self.name, self.is_caller, self.told, self.out = name, is_caller, None, ""
+        self.lost = LOST.format(place.log)
         streams = {stream: subprocess.PIPE for stream in ("stdin", "stdout", "stderr")}
         words = [*place.front, *words]
         self.process = subprocess.Popen(words, env=environment | {"PGAPPNAME": name}, text=True, **streams)
@@ -79,7 +80,7 @@ class Holder:
                 self.told = float(cells[1])
         else:
             self.out = self.process.stderr.readline()
-            if self.out == LOST:
+            if self.out == self.lost:
                 self.told = time.monotonic()
 
     def status(self):
@@ -293,7 +294,7 @@ def unit(site, server):
                      "the unit has no session")
     status = process.wait(SECONDS)
     found = (status, lines["Restart"], (programs / "told").read_text(encoding="utf-8"))
-    site.checks.same(found, (FAULT, "on-failure", LOST), "the unit when its session is lost")
+    site.checks.same(found, (FAULT, "on-failure", LOST.format("unit")), "the unit when its session is lost")
     environment.pop("PGAPPNAME")
     ran = site.finished(words("ExecStopPost"), [], environment)
     site.checks.same((ran.status, ran.out, ran.err), (0, ["node 1: 1 releases, 3 removals"], ""), "what the unit runs then")

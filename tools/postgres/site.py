@@ -22,7 +22,7 @@ TAKING = ("run", "hold", "clean")
 # How a program ends that can't use its log any more, and what the launcher tells where it has ended the program, since that
 # didn't ask for another session in place of one that had ended.
 FAULT = 3
-LOST = "wulameron-postgres: the session was lost, and others may take what this process held; start it again\n"
+LOST = "wulameron-postgres: postgres:{}: the session was lost, and others may take what this process held; start it again\n"
 # What another session has, and whether it does nothing meanwhile, by the name that it goes under.
 AT_WORK = """select a.state, a.wait_event, a.pid, exists (select from pg_locks l where l.pid = a.pid
     and locktype = 'advisory' and classid = 'wulameron.logs'::regclass and granted), a.state_change
@@ -229,6 +229,6 @@ def child(pid, *others, wanted=None):
 def check_over(checks, ran, name, what):
     """It ended since its log can't be used any more, and tells that in a line, or the launcher tells it."""
     begins = f"wulameron: postgres:{name}: "
-    fine = ran.status == FAULT and (ran.err == LOST or ran.err.startswith(begins) and ran.err.count("\n") == 1)
+    fine = ran.status == FAULT and (ran.err == LOST.format(name) or ran.err.startswith(begins) and ran.err.count("\n") == 1)
     checks.count("sessions ended")
     return checks.need(fine, f"{what}: status {ran.status}: {ran.err!r}")
