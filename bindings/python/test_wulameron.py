@@ -19,6 +19,15 @@ HERE = pathlib.Path(__file__).resolve().parent
 os.environ.setdefault("WULAMERON", str(HERE.parent.parent / "crates/wulameron/out/wulameron"))
 
 
+# A program for sessions that grants two calls, and loses its session at the next line.
+LOSING = """#!/bin/sh
+echo 'ready 3 5'
+read -r line; echo 'ok 3 number=0'
+read -r line; echo 'ok 4 number=1'
+read -r line; echo lost; exit 3
+"""
+
+
 def numbers_of_header():
     """The numbers that wulameron.h defines, by their names without the prefix."""
     text = (HERE.parent / "c/wulameron.h").read_text(encoding="utf-8")
@@ -233,6 +242,20 @@ class OverLog(unittest.TestCase):
                 time.sleep(0.02)
             self.assertEqual(session.list(), 0)
             self.assertEqual(session.clean(), w.Cleaned(0, 0, 0))
+
+    def test_session_lost(self):
+        """A program whose session with a database is lost tells so, and the caller learns what it held."""
+        program = self.path.parent / "program"
+        program.write_text(LOSING, encoding="utf-8")
+        program.chmod(0o700)
+        with self.assertRaises(w.SessionLost) as lost, w.Session(self.path, program=str(program)) as session:
+            for slot, name in ((3, "two lamps"), (4, "doors")):
+                session.begin(w.EVENT, w.OPEN, session.node, name)
+                session.send(slot)
+            session.list()
+        self.assertEqual(lost.exception.services, ["two lamps", "doors"])
+        self.assertIs(lost.exception.code, w.Code.LOST)
+        self.assertEqual(str(lost.exception), "the session was lost; open again: two lamps, doors")
 
     def test_refused_opens(self):
         """What can't be opened is named."""

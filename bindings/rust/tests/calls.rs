@@ -1,6 +1,7 @@
 //! What the pages tell of calls.
 use std::error::Error;
 use std::fmt::Debug;
+use std::os::unix::fs::PermissionsExt;
 use std::path::PathBuf;
 use std::process::{Command, Stdio};
 use std::time::Duration;
@@ -220,6 +221,23 @@ fn a_log_is_looked_at() -> Outcome {
     assert!(!ended.is_alive());
     let nothing = Cleaned { nodes: 0, releases: 0, removals: 0 };
     assert_eq!((node.clean(None, true)?, node.clean(Some(9), false)?), (nothing, nothing));
+    Ok(())
+}
+
+/// A program that grants a call, and loses its session with a database at the next line.
+#[test]
+fn a_lost_session_names_what_was_held() -> Outcome {
+    let log = Log::new("lost")?;
+    let program = log.0.join("program");
+    let lines = ["echo 'ready 3 5'", "read -r line; echo 'ok 0 number=0'", "read -r line; echo lost; exit 3"];
+    std::fs::write(&program, format!("#!/bin/sh\n{}\n", lines.join("\n")))?;
+    std::fs::set_permissions(&program, std::fs::Permissions::from_mode(0o700))?;
+    let node = NodeBuilder { path: Some(log.path()), program: Some(program), ..NodeBuilder::default() }.create()?;
+    let lamps = node.service_builder("two lamps").event().open()?;
+    let failure = node.services().err().ok_or("the session isn't lost")?;
+    assert_eq!((failure.code, failure.message.as_str()), (Code::Lost, "two%20lamps"));
+    assert_eq!(failure.to_string(), "the session was lost; open again: two%20lamps");
+    drop(lamps);
     Ok(())
 }
 
