@@ -8,16 +8,18 @@ import pathlib
 import re
 import shutil
 import signal
+import socket
 import subprocess
 import sys
 import threading
 import time
 
 from postgres.checks import SECONDS, until
+from postgres.driver import Client
 from postgres.errors import WRONG_ARGUMENTS
 from postgres.failover import STANDBY, takes_over
 from postgres.networks import Network
-from postgres.server import FAST, IMMEDIATE, LAUNCHER, PAUSE, TOP, Server, replica
+from postgres.server import FAST, IMMEDIATE, LAUNCHER, ORDINARY, PAUSE, TOP, Server, replica
 from postgres.site import FAULT, LOST, waiting
 
 # How long a newcomer goes on, and how soon it asks again.
@@ -34,7 +36,7 @@ SLOW = (["-d", "dbname=logs keepalives_idle=60"], ["-d", "postgresql:///logs?kee
         ["-d", "postgres:///logs?tcp_user_timeout=0"])
 # How many holders there are at once, and by how many ends of them a link is cut, or a standby is promoted.
 CUTS, PROMOTIONS = 24, 100
-BINDINGS = TOP / "bindings"
+BINDINGS, WATCHER = TOP / "bindings", TOP / "postgres/wulameron-postgres-watch"
 UNIT, HOLD = TOP / "contrib/wulameron-hold@.service", TOP / "contrib/wulameron-hold"
 CALLER = """
 import sys, time, wulameron as w
@@ -223,7 +225,10 @@ def killed(_, holders):
 
 def at_server(site, room, kinds, rounds):
     """Each way that a server and psql have, and so many rounds in all."""
-    server = site.add(Server(site.programs, site.room / "holders-server", "127.0.0.1", ("127.0.0.1/32",))).make()
+    hosts = ["127.0.0.1", *(["::1"] if has_ipv6() else [])]
+    server = site.add(Server(site.programs, site.room / "holders-server", ",".join(hosts))).make()
+    hosts.append(str(server.folder))
+    watching(site, server, hosts)
     slow(site, server)
     freed(site, server)
     unit(site, server)
@@ -236,9 +241,48 @@ def at_server(site, room, kinds, rounds):
     }
     drawn = list(ways) + site.checks.random.choices(list(ways), k=max(rounds - len(ways), 0))
     for number, what in enumerate(drawn):
-        place.environment["PGHOST"] = str(server.folder) if number % 2 else "127.0.0.1"
+        place.environment["PGHOST"] = hosts[number % len(hosts)]
         place.strike(what, ways[what], kinds)
     server.stop()
+
+
+def has_ipv6():
+    """Whether this machine has an address of its own of IPv6."""
+    try:
+        with socket.socket(socket.AF_INET6) as one:
+            one.bind(("::1", 0))
+    except OSError:
+        return False
+    return True
+
+
+def watched(pid, *front):
+    """A watcher of this process."""
+    words = [*front, sys.executable, "-IS", str(WATCHER), str(pid)]
+    return subprocess.Popen(words, stdout=subprocess.PIPE, stderr=subprocess.PIPE, text=True)
+
+
+def watching(site, server, hosts):
+    """The watcher tells the end of a session of each kind of connection, and of a process; it tells where it can't look."""
+    for host in hosts:
+        session = Client(server.environment(PGHOST=host))
+        pid = session.call("select pg_backend_pid()")[0]
+        watcher = watched(session.process.pid)
+        time.sleep(1)
+        site.checks.same(watcher.poll(), None, f"at {host}: a watcher while the session lasts")
+        server.told(f"select pg_terminate_backend({pid})")
+        told = watcher.communicate(timeout=SECONDS)
+        site.checks.same((watcher.returncode, *told), (0, f"ended {session.process.pid}\n", ""), f"at {host}: a watcher then")
+        session.kill()
+        # The number of a process that has ended, and was waited for.
+        watcher = watched(session.process.pid)
+        told = watcher.communicate(timeout=SECONDS)
+        site.checks.same((watcher.returncode, *told), (0, f"ended {session.process.pid}\n", ""), f"at {host}: without psql")
+    if os.geteuid() == 0:
+        watcher = watched(os.getpid(), "setpriv", f"--reuid={ORDINARY}", "--clear-groups")
+        out, err = watcher.communicate(timeout=SECONDS)
+        fine = (watcher.returncode, out) == (FAULT, f"ended {os.getpid()}\n") and "can't be read: Permission denied" in err
+        site.checks.need(fine, f"a watcher that may not look: {watcher.returncode}, {out!r}, {err!r}")
 
 
 def slow(site, server):
