@@ -20,8 +20,8 @@ from postgres.table import replay
 AGAIN, NOT_AGAIN, GONE = "wulameron-postgres: connected again", "wulameron-postgres: not connected again: ", "is gone"
 # For how many seconds a process may try to connect, and where it can't; how soon all is gone that it had.
 LONG, SHORT, SOON = str(SECONDS), "1", 5
-# After how many seconds a process has a watcher.
-WATCHED = 1
+# After how many seconds a process has a watcher, and another one in place of one that was killed.
+WATCHED, WATCHED_AGAIN = 1, 3
 # A role whose sessions are let in, or not.
 PARTED, CLOSED, OPEN = "parted", "alter role parted nologin", "alter role parted login"
 # A sequence counts appends, also those of which nothing comes. At one number the session is ended before its row is in
@@ -200,7 +200,7 @@ def held(own):
 def lost(own):
     """A process that waits for its input is ended when its session has, also where it is stopped, with one line, which
     `run --escaped` has on its output too. Its launcher's end is its own."""
-    commands = {"run": ["run"], "stopped": ["run"]}
+    commands = {"run": ["run"], "stopped": ["run"], "watched-again": ["run"]}
     if not own.site.is_plain:
         commands |= {"escaped": ["run", "--escaped"], "held": ["hold", "event", "create", "held"]}
     for what, (command, *words) in commands.items():
@@ -213,6 +213,9 @@ def lost(own):
         time.sleep(WATCHED)
         if what == "stopped":
             os.kill(process.program(), signal.SIGSTOP)
+        if what == "watched-again":
+            os.kill(process.watcher(), signal.SIGKILL)
+            time.sleep(WATCHED_AGAIN)
         own.terminate(process)
         began = time.monotonic()
         ran = process.ended()

@@ -225,13 +225,7 @@ def killed(_, holders):
 
 def at_server(site, room, kinds, rounds):
     """Each way that a server and psql have, and so many rounds in all."""
-    hosts = ["127.0.0.1", *(["::1"] if has_ipv6() else [])]
-    server = site.add(Server(site.programs, site.room / "holders-server", ",".join(hosts))).make()
-    hosts.append(str(server.folder))
-    watching(site, server, hosts)
-    slow(site, server)
-    freed(site, server)
-    unit(site, server)
+    server, hosts = served(site, "holders-server")
     place = Place(site, server, room)
     ways = {
         "its session ended": lambda holders: terminated(place, holders),
@@ -243,6 +237,23 @@ def at_server(site, room, kinds, rounds):
     for number, what in enumerate(drawn):
         place.environment["PGHOST"] = hosts[number % len(hosts)]
         place.strike(what, ways[what], kinds)
+    server.stop()
+
+
+def served(site, name):
+    """A server, and by what it is reached: by addresses of both kinds, where there are, and by its socket."""
+    hosts = ["127.0.0.1", *(["::1"] if has_ipv6() else [])]
+    server = site.add(Server(site.programs, site.room / name, ",".join(hosts))).make()
+    return server, [*hosts, str(server.folder)]
+
+
+def beside(site, *_):
+    """The watcher, what is refused, nodes that are free at once, and the unit."""
+    server, hosts = served(site, "holders-beside")
+    watching(site, server, hosts)
+    slow(site, server)
+    freed(site, server)
+    unit(site, server)
     server.stop()
 
 
@@ -402,7 +413,7 @@ def holders(site):
     cuts, promotions = (-(-site.ends // each) for each in (CUTS, PROMOTIONS))
     rounds = -(-site.ends // len(kinds)) - cuts - promotions
     threads = [threading.Thread(target=guarded, args=[site, part, room, kinds, count], daemon=True)
-               for part, count in ((at_server, rounds), (at_machines, cuts), (at_standby, promotions))]
+               for part, count in ((at_server, rounds), (at_machines, cuts), (at_standby, promotions), (beside, 0))]
     for thread in threads:
         thread.start()
     for thread in threads:

@@ -210,6 +210,10 @@ class Living:
         keeper = self.keeper()
         return child(keeper, wanted="psql") if keeper else None
 
+    def watcher(self):
+        """The process of its watcher, which the keeper has begun."""
+        return child(self.keeper(), "psql")
+
 
 def child(pid, *others, wanted=None):
     """The process that another one has begun, and that runs this program, or where none is named another one than these;
