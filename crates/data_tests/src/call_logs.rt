@@ -1,12 +1,11 @@
 //! Calls that hold a log in a file over several accesses, beside another handle of the same file.
 
-use crate::log_scripts::assert_script;
+use crate::log_scripts::assert_scripts;
 
-#[test]
-fn a_call_keeps_others_out_between_its_accesses(rt: HostRuntime) {
-    assert_script(
-        &rt,
-        &rt,
+/// The scripts, each behind its title.
+const SCRIPTS: [(&str, &str); 3] = [
+    (
+        "a call keeps others out between its accesses",
         "c open
          b open
          c begin
@@ -18,14 +17,9 @@ fn a_call_keeps_others_out_between_its_accesses(rt: HostRuntime) {
          c end
          b hold
          b free",
-    );
-}
-
-#[test]
-fn a_call_is_refused_with_its_first_access(rt: HostRuntime) {
-    assert_script(
-        &rt,
-        &rt,
+    ),
+    (
+        "a call is refused with its first access",
         "c open
          b open
          b hold
@@ -35,14 +29,9 @@ fn a_call_is_refused_with_its_first_access(rt: HostRuntime) {
          c add => Busy
          c end
          c add",
-    );
-}
-
-#[test]
-fn a_call_lets_go_where_it_pauses(rt: HostRuntime) {
-    assert_script(
-        &rt,
-        &rt,
+    ),
+    (
+        "a call lets go where it pauses",
         "c open-pausing
          b open
          c begin
@@ -54,5 +43,10 @@ fn a_call_lets_go_where_it_pauses(rt: HostRuntime) {
          c add
          b hold => Busy
          c end",
-    );
+    ),
+];
+
+#[test]
+fn calls_that_span_accesses_go_as_their_scripts_say(rt: HostRuntime) {
+    assert_scripts(&rt, &rt, &SCRIPTS);
 }

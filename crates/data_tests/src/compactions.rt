@@ -1,13 +1,12 @@
 //! Compactions of logs in files. A header and 15 locks are 843 bytes, and a compaction to one lock makes 101 of them.
 //! The new file has the name `log.compacted` while it is made.
 
-use crate::log_scripts::assert_script;
+use crate::log_scripts::assert_scripts;
 
-#[test]
-fn who_has_the_old_file_is_sent_on(rt: HostRuntime) {
-    assert_script(
-        &rt,
-        &rt,
+/// The scripts, each behind its title.
+const SCRIPTS: [(&str, &str); 25] = [
+    (
+        "who has the old file is sent on",
         "write log header lock*15
          a open
          b open
@@ -38,14 +37,9 @@ fn who_has_the_old_file_is_sent_on(rt: HostRuntime) {
          b free
          b add
          has log snapshot-header lock lock lock => yes",
-    );
-}
-
-#[test]
-fn a_compacted_file_is_opened(rt: HostRuntime) {
-    assert_script(
-        &rt,
-        &rt,
+    ),
+    (
+        "a compacted file is opened",
         "write log header lock*15
          a open
          a hold
@@ -59,14 +53,9 @@ fn a_compacted_file_is_opened(rt: HostRuntime) {
          b free
          kind log.compacted => missing
          b snapshot-length => 53",
-    );
-}
-
-#[test]
-fn a_compacted_file_has_the_mode(rt: HostRuntime) {
-    assert_script(
-        &rt,
-        &rt,
+    ),
+    (
+        "a compacted file has the mode",
         "a open-group
          a add 15
          mode log => 660
@@ -75,14 +64,9 @@ fn a_compacted_file_has_the_mode(rt: HostRuntime) {
          a compact 1
          a free
          mode log => 660",
-    );
-}
-
-#[test]
-fn what_is_left_beside_doesnt_disturb(rt: HostRuntime) {
-    assert_script(
-        &rt,
-        &rt,
+    ),
+    (
+        "what is left beside does not disturb",
         "write log header lock*15
          write log.compacted header
          a open
@@ -91,10 +75,9 @@ fn what_is_left_beside_doesnt_disturb(rt: HostRuntime) {
          a compact 1
          a free
          has log snapshot-header lock => yes",
-    );
-    assert_script(
-        &rt,
-        &rt,
+    ),
+    (
+        "what is left beside does not disturb",
         "write log header lock*15
          write other lock
          link log.compacted other
@@ -106,15 +89,10 @@ fn what_is_left_beside_doesnt_disturb(rt: HostRuntime) {
          has log snapshot-header lock => yes
          has other lock => yes
          kind log => file",
-    );
-}
-
-#[test]
-fn a_compaction_saves_much_or_is_refused(rt: HostRuntime) {
+    ),
     // Eight times 101 are 808 bytes: 14 locks make 790, and 15 make 843.
-    assert_script(
-        &rt,
-        &rt,
+    (
+        "a compaction saves much or is refused",
         "write log header lock*14
          a open
          a hold
@@ -124,10 +102,9 @@ fn a_compaction_saves_much_or_is_refused(rt: HostRuntime) {
          a fault => none
          length log => 843
          kind log.compacted => missing",
-    );
-    assert_script(
-        &rt,
-        &rt,
+    ),
+    (
+        "a compaction saves much or is refused",
         "write log header lock*15
          a open
          a hold
@@ -137,14 +114,9 @@ fn a_compaction_saves_much_or_is_refused(rt: HostRuntime) {
          a fault => none
          length log => 154
          kind log.compacted => missing",
-    );
-}
-
-#[test]
-fn a_refused_compaction_is_no_fault(rt: HostRuntime) {
-    assert_script(
-        &rt,
-        &rt,
+    ),
+    (
+        "a refused compaction is no fault",
         "write log header lock*15
          make-folder log.compacted
          a open
@@ -155,14 +127,9 @@ fn a_refused_compaction_is_no_fault(rt: HostRuntime) {
          kind log.compacted => folder
          kind log => file
          a fault => HeldAlready",
-    );
-}
-
-#[test]
-fn a_log_is_held_and_read_before_it_is_compacted(rt: HostRuntime) {
-    assert_script(
-        &rt,
-        &rt,
+    ),
+    (
+        "a log is held and read before it is compacted",
         "write log header lock*15
          a open
          a compact 1 => Failed
@@ -170,14 +137,9 @@ fn a_log_is_held_and_read_before_it_is_compacted(rt: HostRuntime) {
          a compact 1 => Failed
          a take-all => 15
          a compact 1",
-    );
-}
-
-#[test]
-fn a_log_that_lost_its_path_is_not_compacted(rt: HostRuntime) {
-    assert_script(
-        &rt,
-        &rt,
+    ),
+    (
+        "a log that lost its path is not compacted",
         "write log header lock*15
          a open
          a hold
@@ -189,10 +151,9 @@ fn a_log_that_lost_its_path_is_not_compacted(rt: HostRuntime) {
          kind log.compacted => missing
          kind log => folder
          a fault => none",
-    );
-    assert_script(
-        &rt,
-        &rt,
+    ),
+    (
+        "a log that lost its path is not compacted",
         "write log header lock*15
          a open
          a hold
@@ -204,14 +165,9 @@ fn a_log_that_lost_its_path_is_not_compacted(rt: HostRuntime) {
          kind log.compacted => missing
          has log header => yes
          a fault => none",
-    );
-}
-
-#[test]
-fn a_handle_goes_to_no_other_log(rt: HostRuntime) {
-    assert_script(
-        &rt,
-        &rt,
+    ),
+    (
+        "a handle goes to no other log",
         "write log header lock
          a open
          a hold
@@ -220,10 +176,9 @@ fn a_handle_goes_to_no_other_log(rt: HostRuntime) {
          a rejoin => Failed
          a take => lock
          a fault => AnotherLog",
-    );
-    assert_script(
-        &rt,
-        &rt,
+    ),
+    (
+        "a handle goes to no other log",
         "write log header lock
          a open
          a hold
@@ -232,28 +187,18 @@ fn a_handle_goes_to_no_other_log(rt: HostRuntime) {
          a rejoin => 258
          a take => none
          a fault => none",
-    );
-}
-
-#[test]
-fn a_handle_goes_back_to_the_beginning_of_its_file(rt: HostRuntime) {
-    assert_script(
-        &rt,
-        &rt,
+    ),
+    (
+        "a handle goes back to the beginning of its file",
         "write log header lock*3
          a open
          a hold
          a take-all => 3
          a rejoin => 258
          a take-all => 3",
-    );
-}
-
-#[test]
-fn a_snapshot_that_ends_early_is_damaged(rt: HostRuntime) {
-    assert_script(
-        &rt,
-        &rt,
+    ),
+    (
+        "a snapshot that ends early is damaged",
         "write log snapshot-header lock/20
          a open
          a hold
@@ -262,10 +207,9 @@ fn a_snapshot_that_ends_early_is_damaged(rt: HostRuntime) {
          a free
          has log snapshot-header lock/20 => yes
          a state => Damaged { at: 48 }",
-    );
-    assert_script(
-        &rt,
-        &rt,
+    ),
+    (
+        "a snapshot that ends early is damaged",
         "write log snapshot-header mark
          a open
          a hold
@@ -274,14 +218,9 @@ fn a_snapshot_that_ends_early_is_damaged(rt: HostRuntime) {
          a free
          has log snapshot-header mark => yes
          a state => Damaged { at: 48 }",
-    );
-}
-
-#[test]
-fn a_snapshot_that_ends_within_an_entry_is_damaged(rt: HostRuntime) {
-    assert_script(
-        &rt,
-        &rt,
+    ),
+    (
+        "a snapshot that ends within an entry is damaged",
         "write log split-header lock lock
          a open
          a hold
@@ -290,15 +229,10 @@ fn a_snapshot_that_ends_within_an_entry_is_damaged(rt: HostRuntime) {
          a free
          has log split-header lock lock => yes
          a state => Damaged { at: 101 }",
-    );
-}
-
-#[test]
-fn a_long_file_is_tried_once(rt: HostRuntime) {
+    ),
     // 1,235 locks make 65,503 bytes, and 1,236 make 65,556.
-    assert_script(
-        &rt,
-        &rt,
+    (
+        "a long file is tried once",
         "write log header lock*1235
          a open
          a hold
@@ -306,10 +240,9 @@ fn a_long_file_is_tried_once(rt: HostRuntime) {
          a long => no
          a compact 200 => Failed
          a long => no",
-    );
-    assert_script(
-        &rt,
-        &rt,
+    ),
+    (
+        "a long file is tried once",
         "write log header lock*1236
          a open
          a hold
@@ -317,15 +250,10 @@ fn a_long_file_is_tried_once(rt: HostRuntime) {
          a long => yes
          a compact 200 => Failed
          a long => no",
-    );
-}
-
-#[test]
-fn a_compaction_is_put_off_by_64_kib(rt: HostRuntime) {
+    ),
     // 65,536 bytes more than 65,556 are 131,092: 2,472 locks make 131,064, and 2,473 make 131,117.
-    assert_script(
-        &rt,
-        &rt,
+    (
+        "a compaction is put off by 64 kib",
         "write log header lock*1236
          a open
          a hold
@@ -334,10 +262,9 @@ fn a_compaction_is_put_off_by_64_kib(rt: HostRuntime) {
          write log header lock*2472
          a hold
          a long => no",
-    );
-    assert_script(
-        &rt,
-        &rt,
+    ),
+    (
+        "a compaction is put off by 64 kib",
         "write log header lock*1236
          a open
          a hold
@@ -346,35 +273,28 @@ fn a_compaction_is_put_off_by_64_kib(rt: HostRuntime) {
          write log header lock*2473
          a hold
          a long => yes",
-    );
-}
-
-#[test]
-fn beside_a_snapshot_eight_times_that_is_long(rt: HostRuntime) {
+    ),
     // Eight times 10,648 are 85,184 bytes: 1,606 locks make 85,166, and 1,607 make 85,219.
-    assert_script(
-        &rt,
-        &rt,
+    (
+        "beside a snapshot eight times that is long",
         "write log long-snapshot-header lock*1606
          a open
          a hold
          a long => no
          a rejoin => 0
          a long => no",
-    );
-    assert_script(
-        &rt,
-        &rt,
+    ),
+    (
+        "beside a snapshot eight times that is long",
         "write log long-snapshot-header lock*1607
          a open
          a hold
          a long => yes
          a rejoin => 0
          a long => yes",
-    );
-    assert_script(
-        &rt,
-        &rt,
+    ),
+    (
+        "beside a snapshot eight times that is long",
         "write log header lock*2000
          a open
          a hold
@@ -384,10 +304,9 @@ fn beside_a_snapshot_eight_times_that_is_long(rt: HostRuntime) {
          write log long-snapshot-header lock*1606
          a hold
          a long => no",
-    );
-    assert_script(
-        &rt,
-        &rt,
+    ),
+    (
+        "beside a snapshot eight times that is long",
         "write log header lock*2000
          a open
          a hold
@@ -397,5 +316,10 @@ fn beside_a_snapshot_eight_times_that_is_long(rt: HostRuntime) {
          write log long-snapshot-header lock*1607
          a hold
          a long => yes",
-    );
+    ),
+];
+
+#[test]
+fn compactions_go_as_their_scripts_say(rt: HostRuntime) {
+    assert_scripts(&rt, &rt, &SCRIPTS);
 }

@@ -1,27 +1,26 @@
 //! Logs in files that are opened only where there is one.
 
-use crate::log_scripts::assert_script;
+use crate::log_scripts::assert_scripts;
 
-#[test]
-fn a_missing_log_is_not_made(rt: HostRuntime) {
-    assert_script(
-        &rt,
-        &rt,
+/// The scripts, each behind its title.
+const SCRIPTS: [(&str, &str); 2] = [
+    (
+        "a missing log is not made",
         "a open-existing => Failed { kind: NotFound }
          kind log => missing",
-    );
-}
-
-#[test]
-fn a_log_that_is_there_is_read(rt: HostRuntime) {
-    assert_script(
-        &rt,
-        &rt,
+    ),
+    (
+        "a log that is there is read",
         "write log header lock
          a open-existing
          a hold
          a take => lock
          a take => none
          a free",
-    );
+    ),
+];
+
+#[test]
+fn logs_that_have_to_be_there_go_as_their_scripts_say(rt: HostRuntime) {
+    assert_scripts(&rt, &rt, &SCRIPTS);
 }

@@ -1,7 +1,7 @@
 //! Logs in files, each in a file of its own in the folder for temporary files. What a file holds is known to no
 //! contract, so these tests have it from outside: headers and entries are those that were computed in Python.
 
-use crate::log_scripts::assert_script;
+use crate::log_scripts::assert_scripts;
 use crate::samples::HASH;
 use crate::support::{assert_prints, joined};
 use iceoryx2_description::description::ServiceHash;
@@ -105,35 +105,28 @@ pub fn take_two<L: Log>(log: &mut L) -> [Result<Option<bool>, LogError>; 2] {
     [first, second]
 }
 
-#[test]
-fn a_new_file_is_for_its_user_or_group(rt: HostRuntime) {
-    assert_script(
-        &rt,
-        &rt,
+/// The scripts, each behind its title.
+const SCRIPTS: [(&str, &str); 10] = [
+    (
+        "a new file is for its user or group",
         "a open
          b open
          mode log => 600
          length log => 48
          begins log header/8 => yes
          same-log => yes",
-    );
-    assert_script(
-        &rt,
-        &rt,
+    ),
+    (
+        "a new file is for its user or group",
         "a open-group
          b open-group
          mode log => 660
          length log => 48
          begins log header/8 => yes
          same-log => yes",
-    );
-}
-
-#[test]
-fn entries_go_from_handle_to_handle(rt: HostRuntime) {
-    assert_script(
-        &rt,
-        &rt,
+    ),
+    (
+        "entries go from handle to handle",
         "write log header
          a open
          b open
@@ -148,14 +141,9 @@ fn entries_go_from_handle_to_handle(rt: HostRuntime) {
          a take => none
          a free
          has log header lock lock => yes",
-    );
-}
-
-#[test]
-fn a_held_log_is_busy(rt: HostRuntime) {
-    assert_script(
-        &rt,
-        &rt,
+    ),
+    (
+        "a held log is busy",
         "a open
          b open
          a hold
@@ -163,7 +151,78 @@ fn a_held_log_is_busy(rt: HostRuntime) {
          a free
          b hold
          b fault => Busy",
-    );
+    ),
+    (
+        "a mark of a log that stayed is cut off",
+        "write log header lock mark
+         a open
+         a hold
+         a take => lock
+         a take => none
+         a free
+         has log header lock => yes
+         a state => Free",
+    ),
+    (
+        "damage between entries stays",
+        "write log header lock lock@8=73 lock
+         a open
+         a hold
+         a take => lock
+         a take => Damaged
+         a free
+         has log header lock lock@8=73 lock => yes
+         a state => Damaged { at: 101 }",
+    ),
+    (
+        "damage between entries stays",
+        "write log header lock mark lock
+         a open
+         a hold
+         a take => lock
+         a take => Damaged
+         a free
+         has log header lock mark lock => yes
+         a state => Damaged { at: 101 }",
+    ),
+    (
+        "a file that became shorter is damaged",
+        "write log header lock
+         a open
+         a hold
+         a take => lock
+         a take => none
+         a free
+         write log header
+         a hold => Damaged
+         a fault => Damaged { at: 48 }",
+    ),
+    (
+        "what is no file is refused",
+        "a open / => IsAFolder
+         a open /dev/null => NotAFile
+         a open /proc/self/exe => IsALink",
+    ),
+    (
+        "what is no log is refused",
+        "write log
+         a open => NotALog
+         has log => yes
+         write log version-1
+         a open => AnotherVersion { found: 1 }
+         has log version-1 => yes
+         write log header@7=3
+         a open => AnotherVersion { found: 3 }
+         has log header@7=3 => yes
+         write log header@31=3
+         a open => Damaged { at: 0 }
+         has log header@31=3 => yes",
+    ),
+];
+
+#[test]
+fn logs_in_files_go_as_their_scripts_say(rt: HostRuntime) {
+    assert_scripts(&rt, &rt, &SCRIPTS);
 }
 
 /// What is taken over of a file that holds this, and whether it holds that from then on.
@@ -179,98 +238,6 @@ pub fn read_from_file(
     let same = holds(rt, &path, left)?;
     fs::remove_file(rt, path.as_str()).ok()?;
     Some((taken, same))
-}
-
-#[test]
-fn a_mark_of_a_log_that_stayed_is_cut_off(rt: HostRuntime) {
-    assert_script(
-        &rt,
-        &rt,
-        "write log header lock mark
-         a open
-         a hold
-         a take => lock
-         a take => none
-         a free
-         has log header lock => yes
-         a state => Free",
-    );
-}
-
-#[test]
-fn damage_between_entries_stays(rt: HostRuntime) {
-    assert_script(
-        &rt,
-        &rt,
-        "write log header lock lock@8=73 lock
-         a open
-         a hold
-         a take => lock
-         a take => Damaged
-         a free
-         has log header lock lock@8=73 lock => yes
-         a state => Damaged { at: 101 }",
-    );
-    assert_script(
-        &rt,
-        &rt,
-        "write log header lock mark lock
-         a open
-         a hold
-         a take => lock
-         a take => Damaged
-         a free
-         has log header lock mark lock => yes
-         a state => Damaged { at: 101 }",
-    );
-}
-
-#[test]
-fn a_file_that_became_shorter_is_damaged(rt: HostRuntime) {
-    assert_script(
-        &rt,
-        &rt,
-        "write log header lock
-         a open
-         a hold
-         a take => lock
-         a take => none
-         a free
-         write log header
-         a hold => Damaged
-         a fault => Damaged { at: 48 }",
-    );
-}
-
-#[test]
-fn what_is_no_file_is_refused(rt: HostRuntime) {
-    assert_script(
-        &rt,
-        &rt,
-        "a open / => IsAFolder
-         a open /dev/null => NotAFile
-         a open /proc/self/exe => IsALink",
-    );
-}
-
-#[test]
-fn what_is_no_log_is_refused(rt: HostRuntime) {
-    assert_script(
-        &rt,
-        &rt,
-        "write log
-         a open => NotALog
-         has log => yes
-         write log version-1
-         a open => AnotherVersion { found: 1 }
-         has log version-1 => yes
-         write log header@7=3
-         a open => AnotherVersion { found: 3 }
-         has log header@7=3 => yes
-         write log header@31=3
-         a open => Damaged { at: 0 }
-         has log header@31=3 => yes",
-    );
 }
 
 #[test]

@@ -2,8 +2,8 @@
 //!
 //! Of values: copies of attributes, hashes in digits, the order of times, and the texts of errors (`values`).
 //!
-//! Logs in files are made, held, cut and refused by name, and left as a crash may leave them. Their bytes are those that
-//! another program computed (`samples`). The tests are scripts, with their answers (`log_scripts`, `script_files`). What a
+//! Logs in files are made, held, cut and refused by name. Their bytes are those that another program computed
+//! (`samples`). The tests are scripts, with their answers (`log_scripts`, `script_files`). What a
 //! handle does to bytes is tested over a file in memory too (`media`).
 //! Where the file is removed, renamed or replaced under a handle, the handle says so (`lost_paths`). A call over several
 //! accesses keeps another handle out (`call_logs`).
@@ -21,8 +21,6 @@
 mod call_logs;
 #[cfg(test)]
 mod compactions;
-#[cfg(test)]
-mod crashes;
 #[cfg(test)]
 mod existing_logs;
 #[cfg(test)]

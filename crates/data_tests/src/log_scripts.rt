@@ -1,5 +1,5 @@
 //! Scripts that test logs in files. A line of a script is a question, with its answer behind `=>`, as in `a take => lock`.
-//! A line without `=>` is a command, and says that it was done. `assert_script` asks each question in turn and compares
+//! A line without `=>` is a command, and says that it was done. `assert_scripts` asks each question in turn and compares
 //! the answers with those of the script. Each script runs in a new folder, where the log's file has the name `log`.
 //!
 //! The first word names a handle: `a`, `b`, or `c`, whose calls can span several accesses. All handles append the same
@@ -39,12 +39,83 @@ use std::process::Abort;
 use std::time::Duration;
 use std::{fmt, fs};
 
+/// A handle of a log in a file, which lives as long as its runtime. The functions below are over any of them, since the
+/// proof of one that names the handle itself takes long.
+trait FileHandle<'a>: Log + Drop {
+    /// Returns a handle of the log in the file of this path.
+    fn opened(rt: &'a HostRuntime, path: String, way: Way) -> Result<Self, FileLogError>;
+
+    /// Answers a question that reads a field. `Unknown` if the word is no such question.
+    fn told(&self, word: &str) -> Answer;
+
+    /// Returns whether two handles have the same header.
+    fn is_same_log(&self, other: &Self) -> bool;
+}
+
+impl<'a> FileHandle<'a> for Handle<'a> {
+    fn opened(rt: &'a HostRuntime, path: String, way: Way) -> Result<Handle<'a>, FileLogError> {
+        match way {
+            Way::Makes => FileLog::open(rt, path, options_for(Sharing::User)),
+            Way::MakesForGroup => FileLog::open(rt, path, options_for(Sharing::Group)),
+            Way::Pauses => FileLog::open(rt, path, options_with_pauses(1000)),
+            Way::Finds => FileLog::open_existing(rt, path, options_for(Sharing::User)),
+            Way::Reads => FileLog::open_to_read(rt, path, options_with_pauses(500)),
+        }
+    }
+
+    fn told(&self, word: &str) -> Answer {
+        match word {
+            "fault" => fault_of(self.fault()),
+            "state" => Answer::Stands(self.state()),
+            "position" => Answer::Number(self.position()),
+            "snapshot-length" => Answer::Number(self.header().snapshot_length),
+            _ => Answer::Unknown,
+        }
+    }
+
+    fn is_same_log(&self, other: &Handle<'a>) -> bool {
+        self.header() == other.header()
+    }
+}
+
+/// A word that is an answer.
+#[derive(Clone, Copy)]
+pub enum Word {
+    Yes,
+    No,
+    Lock,
+    Another,
+    None,
+    File,
+    Folder,
+    Link,
+    Missing,
+    Refused,
+}
+
+impl Word {
+    fn text(self) -> &'static str {
+        match self {
+            Word::Yes => "yes",
+            Word::No => "no",
+            Word::Lock => "lock",
+            Word::Another => "another",
+            Word::None => "none",
+            Word::File => "file",
+            Word::Folder => "folder",
+            Word::Link => "link",
+            Word::Missing => "missing",
+            Word::Refused => "refused",
+        }
+    }
+}
+
 /// The answer to a question.
 #[derive(Clone, Copy)]
 pub enum Answer {
     /// The command was carried out.
     Done,
-    Word(&'static str),
+    Word(Word),
     Number(u64),
     /// The bits of a file's mode.
     Mode(u32),
@@ -59,7 +130,7 @@ impl fmt::Display for Answer {
     fn fmt<W: fmt::Write>(&self, f: &mut fmt::Formatter<W>) -> fmt::Result {
         match self {
             Answer::Done => Ok(()),
-            Answer::Word(word) => write!(f, " => {word}"),
+            Answer::Word(word) => write!(f, " => {}", word.text()),
             Answer::Number(number) => write!(f, " => {number}"),
             Answer::Mode(mode) => write!(f, " => {mode:o}"),
             Answer::Stands(state) => write!(f, " => {state:?}"),
@@ -72,7 +143,7 @@ impl fmt::Display for Answer {
 
 /// Answers yes or no.
 pub fn yes_or_no(is_so: bool) -> Answer {
-    Answer::Word(if is_so { "yes" } else { "no" })
+    Answer::Word(if is_so { Word::Yes } else { Word::No })
 }
 
 /// Answers a command to a log.
@@ -148,34 +219,23 @@ fn options_with_pauses(milliseconds: u64) -> FileLogOptions {
     }
 }
 
-/// Returns a handle of the log in the file of this path.
-fn opened<'a>(rt: &'a HostRuntime, path: String, way: Way) -> Result<Handle<'a>, FileLogError> {
-    match way {
-        Way::Makes => FileLog::open(rt, path, options_for(Sharing::User)),
-        Way::MakesForGroup => FileLog::open(rt, path, options_for(Sharing::Group)),
-        Way::Pauses => FileLog::open(rt, path, options_with_pauses(1000)),
-        Way::Finds => FileLog::open_existing(rt, path, options_for(Sharing::User)),
-        Way::Reads => FileLog::open_to_read(rt, path, options_with_pauses(500)),
-    }
-}
-
 /// Returns the path of the file to open: `log` if no name is given.
 fn path_to_open(alloc: Global, folder: &str, name: &str) -> Result<String, AllocError> {
     path_of(alloc, folder, if name.is_empty() { "log" } else { name })
 }
 
 /// Opens a handle.
-fn open<'a>(
+fn open<'a, L: FileHandle<'a>>(
     rt: &'a HostRuntime,
     folder: &str,
-    handle: &mut Option<Handle<'a>>,
+    handle: &mut Option<L>,
     way: Way,
     name: &str,
 ) -> Answer {
     let Ok(path) = path_to_open(rt.alloc(), folder, name) else {
         return Answer::Unknown;
     };
-    match opened(rt, path, way) {
+    match L::opened(rt, path, way) {
         Ok(log) => {
             *handle = Some(log);
             Answer::Done
@@ -185,13 +245,13 @@ fn open<'a>(
 }
 
 /// Opens a handle whose calls can span accesses.
-fn open_spanning<'a>(
+fn open_spanning<'a, L: FileHandle<'a>>(
     rt: &'a HostRuntime,
     folder: &str,
-    handle: &mut Option<CallLog<Handle<'a>>>,
+    handle: &mut Option<CallLog<L>>,
     way: Way,
 ) -> Answer {
-    let mut log = None;
+    let mut log: Option<L> = None;
     let answer = open(rt, folder, &mut log, way, "log");
     *handle = log.map(CallLog::new);
     answer
@@ -202,9 +262,9 @@ fn open_spanning<'a>(
 /// Takes over the next entry, and answers what it is.
 fn take<L: Log>(log: &mut L) -> Answer {
     match take_next(log) {
-        Ok(Some(true)) => Answer::Word("lock"),
-        Ok(Some(false)) => Answer::Word("another"),
-        Ok(None) => Answer::Word("none"),
+        Ok(Some(true)) => Answer::Word(Word::Lock),
+        Ok(Some(false)) => Answer::Word(Word::Another),
+        Ok(None) => Answer::Word(Word::None),
         Err(error) => Answer::Refused(error),
     }
 }
@@ -284,32 +344,33 @@ fn ask<L: Log>(log: &mut L, word: &str) -> Answer {
 // ---- questions to the handles
 
 /// Answers with the reason of the last refusal.
-fn fault(log: &Handle<'_>) -> Answer {
-    match log.fault() {
+fn fault_of(fault: Option<FileFault>) -> Answer {
+    match fault {
         Some(fault) => Answer::Fault(fault),
-        None => Answer::Word("none"),
+        None => Answer::Word(Word::None),
     }
 }
 
 /// Asks an open handle a question.
-fn ask_open(alloc: Global, log: &mut Handle<'_>, (word, rest): (&str, &str)) -> Answer {
+fn ask_open<'a, L: FileHandle<'a>>(
+    alloc: Global,
+    log: &mut L,
+    (word, rest): (&str, &str),
+) -> Answer {
     if !rest.is_empty() {
         return ask_many(alloc, log, (word, rest));
     }
-    match word {
-        "fault" => fault(log),
-        "state" => Answer::Stands(log.state()),
-        "position" => Answer::Number(log.position()),
-        "snapshot-length" => Answer::Number(log.header().snapshot_length),
-        _ => ask(log, word),
+    match log.told(word) {
+        Answer::Unknown => ask(log, word),
+        answer => answer,
     }
 }
 
 /// Opens a handle, or asks it a question.
-fn ask_handle<'a>(
+fn ask_handle<'a, L: FileHandle<'a>>(
     rt: &'a HostRuntime,
     folder: &str,
-    handle: &mut Option<Handle<'a>>,
+    handle: &mut Option<L>,
     question: &str,
 ) -> Answer {
     let (word, rest) = first_word(question);
@@ -323,7 +384,7 @@ fn ask_handle<'a>(
 }
 
 /// Asks an open handle whose calls can span accesses.
-fn ask_call(log: &mut CallLog<Handle<'_>>, word: &str) -> Answer {
+fn ask_call<L: SpansCalls>(log: &mut L, word: &str) -> Answer {
     match word {
         "begin" => {
             log.begin_call();
@@ -338,10 +399,10 @@ fn ask_call(log: &mut CallLog<Handle<'_>>, word: &str) -> Answer {
 }
 
 /// Opens a handle whose calls can span accesses, or asks it a question.
-fn ask_spanning<'a>(
+fn ask_spanning<'a, L: FileHandle<'a>>(
     rt: &'a HostRuntime,
     folder: &str,
-    handle: &mut Option<CallLog<Handle<'a>>>,
+    handle: &mut Option<CallLog<L>>,
     word: &str,
 ) -> Answer {
     if let Some(way) = way_of(word) {
@@ -354,9 +415,9 @@ fn ask_spanning<'a>(
 }
 
 /// Answers whether two handles have the same header.
-fn same_log(a: &Option<Handle<'_>>, b: &Option<Handle<'_>>) -> Answer {
+fn same_log<'a, L: FileHandle<'a>>(a: &Option<L>, b: &Option<L>) -> Answer {
     match (a, b) {
-        (Some(a), Some(b)) => yes_or_no(a.header() == b.header()),
+        (Some(a), Some(b)) => yes_or_no(a.is_same_log(b)),
         _ => Answer::Unknown,
     }
 }
@@ -364,24 +425,24 @@ fn same_log(a: &Option<Handle<'_>>, b: &Option<Handle<'_>>) -> Answer {
 // ---- scripts
 
 /// The handles of a script.
-struct Handles<'a> {
-    a: Option<Handle<'a>>,
-    b: Option<Handle<'a>>,
-    c: Option<CallLog<Handle<'a>>>,
+struct Handles<L> {
+    a: Option<L>,
+    b: Option<L>,
+    c: Option<CallLog<L>>,
 }
 
 // Written out, so that a proof of what lets one go doesn't take its fields apart.
-impl Drop for Handles<'_> {
+impl<L: Drop> Drop for Handles<L> {
     fn drop(self) {
         let Handles { a: _, b: _, c: _ } = self;
     }
 }
 
 /// Answers a question.
-fn answer_to<'a>(
+fn answer_to<'a, L: FileHandle<'a>>(
     rt: &'a HostRuntime,
     folder: &str,
-    handles: &mut Handles<'a>,
+    handles: &mut Handles<L>,
     question: &str,
 ) -> Answer {
     let (word, rest) = first_word(question);
@@ -422,10 +483,10 @@ fn add_line(
 }
 
 /// Answers all lines of a script.
-fn add_lines<'a>(
+fn add_lines<'a, L: FileHandle<'a>>(
     rt: &'a HostRuntime,
     folder: &str,
-    handles: &mut Handles<'a>,
+    handles: &mut Handles<L>,
     texts: &mut Texts,
     script: &str,
 ) -> Result<(), AllocError> {
@@ -447,7 +508,7 @@ fn add_script(
     texts: &mut Texts,
     script: &str,
 ) -> Result<(), AllocError> {
-    let mut handles = Handles {
+    let mut handles: Handles<Handle> = Handles {
         a: None,
         b: None,
         c: None,
@@ -464,8 +525,8 @@ fn run_script(rt: &HostRuntime, texts: &mut Texts, script: &str) -> Option<()> {
     answered.ok()
 }
 
-/// Ends a test if its script is answered in another way than it says.
-pub fn assert_script(rt: &HostRuntime, test: &impl Abort, script: &str) {
+/// Ends a test if a script is answered in another way than it says.
+fn assert_script(rt: &HostRuntime, test: &impl Abort, title: &str, script: &str) {
     let mut texts = Texts {
         wanted: String::new(rt.alloc()),
         found: String::new(rt.alloc()),
@@ -475,8 +536,15 @@ pub fn assert_script(rt: &HostRuntime, test: &impl Abort, script: &str) {
     }
     if texts.found != texts.wanted {
         panic!(test;
-            "this is answered:\n{}\nand not:\n{}",
+            "{title}: this is answered:\n{}\nand not:\n{}",
             texts.found, texts.wanted
         );
+    }
+}
+
+/// Ends a test if one of these scripts, which follow their titles, is answered in another way than it says.
+pub fn assert_scripts(rt: &HostRuntime, test: &impl Abort, scripts: &[(&str, &str)]) {
+    for (title, script) in scripts {
+        assert_script(rt, test, title, script);
     }
 }

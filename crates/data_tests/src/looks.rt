@@ -1,12 +1,11 @@
 //! Logs in files that are read without the lock.
 
-use crate::log_scripts::assert_script;
+use crate::log_scripts::assert_scripts;
 
-#[test]
-fn a_look_shows_what_stood(rt: HostRuntime) {
-    assert_script(
-        &rt,
-        &rt,
+/// The scripts, each behind its title.
+const SCRIPTS: [(&str, &str); 4] = [
+    (
+        "a look shows what stood",
         "write log header lock lock
          a open
          b open
@@ -19,14 +18,9 @@ fn a_look_shows_what_stood(rt: HostRuntime) {
          b take-all => 2
          b look
          b take-all => 1",
-    );
-}
-
-#[test]
-fn a_reader_leaves_the_file_as_it_is(rt: HostRuntime) {
-    assert_script(
-        &rt,
-        &rt,
+    ),
+    (
+        "a reader leaves the file as it is",
         "write log header lock
          a open-to-read
          a look
@@ -35,10 +29,9 @@ fn a_reader_leaves_the_file_as_it_is(rt: HostRuntime) {
          a append => Failed
          a hold => Failed
          a fault => ReadOnly",
-    );
-    assert_script(
-        &rt,
-        &rt,
+    ),
+    (
+        "a reader leaves the file as it is",
         "write log header lock lock/20
          a open-to-read
          a look
@@ -47,14 +40,9 @@ fn a_reader_leaves_the_file_as_it_is(rt: HostRuntime) {
          a append => Failed
          a hold => Failed
          a fault => ReadOnly",
-    );
-}
-
-#[test]
-fn a_reader_goes_to_where_the_log_goes_on(rt: HostRuntime) {
-    assert_script(
-        &rt,
-        &rt,
+    ),
+    (
+        "a reader goes to where the log goes on",
         "write log header lock*15
          a open-to-read
          b open
@@ -67,5 +55,10 @@ fn a_reader_goes_to_where_the_log_goes_on(rt: HostRuntime) {
          a rejoin => 0
          b add
          a take-all => 1",
-    );
+    ),
+];
+
+#[test]
+fn looks_go_as_their_scripts_say(rt: HostRuntime) {
+    assert_scripts(&rt, &rt, &SCRIPTS);
 }

@@ -1,12 +1,11 @@
 //! Logs whose file loses the log's path under a handle.
 
-use crate::log_scripts::assert_script;
+use crate::log_scripts::assert_scripts;
 
-#[test]
-fn a_file_without_the_path_is_read_to_its_end_alone(rt: HostRuntime) {
-    assert_script(
-        &rt,
-        &rt,
+/// The scripts, each behind its title.
+const SCRIPTS: [(&str, &str); 7] = [
+    (
+        "a file without the path is read to its end alone",
         "write log header lock
          a open
          remove log
@@ -16,10 +15,9 @@ fn a_file_without_the_path_is_read_to_its_end_alone(rt: HostRuntime) {
          a free
          a add => Failed
          a fault => Removed",
-    );
-    assert_script(
-        &rt,
-        &rt,
+    ),
+    (
+        "a file without the path is read to its end alone",
         "write log header lock
          a open
          rename log kept
@@ -29,10 +27,9 @@ fn a_file_without_the_path_is_read_to_its_end_alone(rt: HostRuntime) {
          a free
          a add => Failed
          a fault => Removed",
-    );
-    assert_script(
-        &rt,
-        &rt,
+    ),
+    (
+        "a file without the path is read to its end alone",
         "write log header lock
          a open
          write other header
@@ -43,14 +40,9 @@ fn a_file_without_the_path_is_read_to_its_end_alone(rt: HostRuntime) {
          a free
          a add => Failed
          a fault => Removed",
-    );
-}
-
-#[test]
-fn nothing_of_a_file_without_the_path_is_cut_off(rt: HostRuntime) {
-    assert_script(
-        &rt,
-        &rt,
+    ),
+    (
+        "nothing of a file without the path is cut off",
         "write log header lock lock/20
          a open
          rename log kept
@@ -59,14 +51,9 @@ fn nothing_of_a_file_without_the_path_is_cut_off(rt: HostRuntime) {
          a take => Failed
          a free
          has kept header lock lock/20 => yes",
-    );
-}
-
-#[test]
-fn a_file_that_has_its_path_back_is_used(rt: HostRuntime) {
-    assert_script(
-        &rt,
-        &rt,
+    ),
+    (
+        "a file that has its path back is used",
         "write log header
          a open
          rename log kept
@@ -74,14 +61,9 @@ fn a_file_that_has_its_path_back_is_used(rt: HostRuntime) {
          rename kept log
          a add
          has log header lock => yes",
-    );
-}
-
-#[test]
-fn a_mark_leads_from_a_file_without_the_path(rt: HostRuntime) {
-    assert_script(
-        &rt,
-        &rt,
+    ),
+    (
+        "a mark leads from a file without the path",
         "write log header lock*15
          a open
          b open
@@ -93,19 +75,19 @@ fn a_mark_leads_from_a_file_without_the_path(rt: HostRuntime) {
          b take-all => Moved
          b rejoin => 0
          b take-all => 1",
-    );
-}
-
-#[test]
-fn a_removed_log_goes_on_nowhere(rt: HostRuntime) {
-    assert_script(
-        &rt,
-        &rt,
+    ),
+    (
+        "a removed log goes on nowhere",
         "write log header lock
          a open
          a hold
          remove log
          a rejoin => Failed
          a fault => Removed",
-    );
+    ),
+];
+
+#[test]
+fn logs_that_lose_their_paths_go_as_their_scripts_say(rt: HostRuntime) {
+    assert_scripts(&rt, &rt, &SCRIPTS);
 }

@@ -60,7 +60,7 @@ fn handle<'a>(
 }
 
 /// Holds the log, takes over what others have appended, and appends the entry.
-fn append(log: &mut Handle<'_>) -> Result<(), LogError> {
+fn append<L: Log>(log: &mut L) -> Result<(), LogError> {
     log.hold()?;
     for _ in 0..9 {
         if log.next()?.is_none() {

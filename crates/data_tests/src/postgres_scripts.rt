@@ -34,6 +34,26 @@ use std::process::Abort;
 
 type Handle<'a> = PostgresLog<&'a [u8], &'a mut Vec<u8>>;
 
+/// A handle of a log in a database. The functions below are over any of them, since the proof of one that names the handle
+/// itself takes long.
+trait DatabaseHandle: Log {
+    /// Writes the answer to a question that reads a field.
+    fn tell(&self, question: &str, wanted: &str, text: &mut String) -> Result<(), AllocError>;
+}
+
+impl DatabaseHandle for Handle<'_> {
+    fn tell(&self, question: &str, wanted: &str, text: &mut String) -> Result<(), AllocError> {
+        match question {
+            "state" => write!(text, " => {:?}", self.state()),
+            "fault" => write_fault(self.fault(), text),
+            "stands" => write_place((self.generation(), self.number(), self.counter()), text),
+            "in snapshot" => write!(text, " => {}", self.is_in_snapshot()),
+            "asked" => write_asked(self.questions().as_slice(), wanted, text),
+            _ => text.push_str(" is unknown"),
+        }
+    }
+}
+
 const SUM: &str = "000102030405060708090a0b0c0d0e0f101112131415161718191a1b1c1d1e1f";
 
 const LOCK: &str =
@@ -134,9 +154,11 @@ fn write_fault(fault: Option<PostgresFault>, text: &mut String) -> Result<(), Al
     }
 }
 
-/// Writes the handle's place.
-fn write_place(log: &Handle<'_>, text: &mut String) -> Result<(), AllocError> {
-    let (generation, number, counter) = (log.generation(), log.number(), log.counter());
+/// Writes a handle's place: its generation, its number and its counter.
+fn write_place(
+    (generation, number, counter): (u64, u64, u64),
+    text: &mut String,
+) -> Result<(), AllocError> {
     write!(
         text,
         " => generation {generation} number {number} counter {counter}"
@@ -156,7 +178,7 @@ fn write_asked(asked: &[u8], wanted: &str, text: &mut String) -> Result<(), Allo
 }
 
 /// Takes over the locks that are next, up to 99, and returns how many these are.
-fn take_all(log: &mut Handle<'_>) -> u64 {
+fn take_all<L: Log>(log: &mut L) -> u64 {
     for count in 0..99 {
         if log.next() != Ok(Some(lock())) {
             return count;
@@ -166,26 +188,9 @@ fn take_all(log: &mut Handle<'_>) -> u64 {
     99
 }
 
-/// Writes the answer to a question that asks the handle for no more than its fields.
-fn tell(
-    log: &Handle<'_>,
-    question: &str,
-    wanted: &str,
-    text: &mut String,
-) -> Result<(), AllocError> {
-    match question {
-        "state" => write!(text, " => {:?}", log.state()),
-        "fault" => write_fault(log.fault(), text),
-        "stands" => write_place(log, text),
-        "in snapshot" => write!(text, " => {}", log.is_in_snapshot()),
-        "asked" => write_asked(log.questions().as_slice(), wanted, text),
-        _ => text.push_str(" is unknown"),
-    }
-}
-
 /// Makes a call that appends or compacts, or lets go of the log, and writes its answer.
-fn change(
-    log: &mut Handle<'_>,
+fn change<L: DatabaseHandle>(
+    log: &mut L,
     question: &str,
     wanted: &str,
     text: &mut String,
@@ -201,13 +206,13 @@ fn change(
             log.let_go();
             Ok(())
         }
-        _ => tell(log, question, wanted, text),
+        _ => log.tell(question, wanted, text),
     }
 }
 
 /// Carries out a question, and writes its answer.
-fn carry_out(
-    log: &mut Handle<'_>,
+fn carry_out<L: DatabaseHandle>(
+    log: &mut L,
     question: &str,
     wanted: &str,
     text: &mut String,
@@ -227,8 +232,8 @@ fn carry_out(
 }
 
 /// Carries out a line and writes it with its answer, unless it is the first line of a script.
-fn carry_out_line(
-    log: &mut Handle<'_>,
+fn carry_out_line<L: DatabaseHandle>(
+    log: &mut L,
     line: &str,
     wanted: &str,
     text: &mut String,
@@ -280,8 +285,8 @@ fn prepare(
 }
 
 /// Writes the first line of a session's script, which was answered already, and carries out the others.
-fn carry_out_script(
-    log: &mut Handle<'_>,
+fn carry_out_script<L: DatabaseHandle>(
+    log: &mut L,
     session: &Session,
     first: &str,
     text: &mut String,

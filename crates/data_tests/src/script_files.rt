@@ -15,7 +15,7 @@
 //! A part names a sample. `lock*3` is three locks, `lock/20` is the first 20 bytes of a lock, and `lock@8=73` is a lock
 //! with the byte 73 at place 8. The answer is `refused` if the system refuses.
 
-use crate::log_scripts::{Answer, first_word, path_of, yes_or_no};
+use crate::log_scripts::{Answer, Word, first_word, path_of, yes_or_no};
 use crate::samples::{
     ANOTHER, HEADER, LOCK, LONG_SNAPSHOT_HEADER, MARK, SNAPSHOT_HEADER, SPLIT_HEADER, VERSION_1,
 };
@@ -94,7 +94,7 @@ fn push_parts(bytes: &mut Vec<u8>, words: &str) -> Option<()> {
 fn done(answer: io::Result<()>) -> Answer {
     match answer {
         Ok(()) => Answer::Done,
-        Err(_) => Answer::Word("refused"),
+        Err(_) => Answer::Word(Word::Refused),
     }
 }
 
@@ -104,7 +104,7 @@ fn use_bytes(rt: &HostRuntime, word: &str, path: &str, bytes: &[u8]) -> Answer {
         return done(fs::write(rt, path, bytes));
     }
     match fs::read(rt, path) {
-        Err(_) => Answer::Word("refused"),
+        Err(_) => Answer::Word(Word::Refused),
         Ok(found) if word == "has" => yes_or_no(found.as_slice() == bytes),
         Ok(found) => yes_or_no(found.starts_with(bytes)),
     }
@@ -122,11 +122,11 @@ fn use_words(rt: &HostRuntime, word: &str, path: &str, words: &str) -> Answer {
 /// Answers what has the path.
 fn kind(rt: &HostRuntime, path: &str) -> Answer {
     match fs::symlink_metadata(rt, path) {
-        Ok(metadata) if metadata.is_file() => Answer::Word("file"),
-        Ok(metadata) if metadata.is_dir() => Answer::Word("folder"),
-        Ok(_) => Answer::Word("link"),
-        Err(error) if error.kind() == ErrorKind::NotFound => Answer::Word("missing"),
-        Err(_) => Answer::Word("refused"),
+        Ok(metadata) if metadata.is_file() => Answer::Word(Word::File),
+        Ok(metadata) if metadata.is_dir() => Answer::Word(Word::Folder),
+        Ok(_) => Answer::Word(Word::Link),
+        Err(error) if error.kind() == ErrorKind::NotFound => Answer::Word(Word::Missing),
+        Err(_) => Answer::Word(Word::Refused),
     }
 }
 
@@ -135,7 +135,7 @@ fn measure(rt: &HostRuntime, word: &str, path: &str) -> Answer {
     match fs::metadata(rt, path) {
         Ok(metadata) if word == "length" => Answer::Number(metadata.len()),
         Ok(metadata) => Answer::Mode(metadata.mode() & 0o777),
-        Err(_) => Answer::Word("refused"),
+        Err(_) => Answer::Word(Word::Refused),
     }
 }
 
