@@ -22,6 +22,8 @@ pub enum Over {
     Table,
     Large,
     Plain,
+    /// A session over a table.
+    Session,
     Journal,
     Busy,
     Full,
@@ -43,10 +45,11 @@ impl Over {
     }
 }
 
-const OVER: [(&str, Over); 12] = [
+const OVER: [(&str, Over); 13] = [
     ("table", Over::Table),
     ("large", Over::Large),
     ("plain", Over::Plain),
+    ("session", Over::Session),
     ("journal", Over::Journal),
     ("busy", Over::Busy),
     ("full", Over::Full),

@@ -17,6 +17,7 @@ mod known;
 mod left;
 mod programs;
 mod run;
+mod sessions;
 mod starve;
 mod storages;
 mod subject;

@@ -13,7 +13,7 @@ use negotiate_serve::lines::Lines;
 use negotiate_serve::report::report;
 use negotiate_serve::serve::serve as negotiate;
 use std::alloc::Global;
-use std::io::{BufRead, BufReader, Write};
+use std::io::{BufRead, BufReader, Read, Write};
 
 /// More lines than any input has.
 const MOST_LINES: u64 = 1_000_000;
@@ -37,11 +37,11 @@ fn answer_all<A, L: Lines<A>, R: BufRead, W: Write>(
 }
 
 /// Answers each line of an input over a new table, as a session of `wulameron` does.
-fn reply(
+fn reply<R: Read + Drop, W: Write>(
     alloc: Global,
     wrong_lines: WrongLines,
-    input: &[u8],
-    page: &mut Vec<u8>,
+    input: R,
+    page: &mut W,
 ) -> Result<Ending, ServeError> {
     let Ok(mut reader) = BufReader::new(alloc, input) else {
         return Err(ServeError::OutOfMemory);
@@ -52,6 +52,25 @@ fn reply(
     ended
 }
 
+/// Runs `explain` on any input. `serve` calls no program's function by itself, since each names many types.
+fn run_explain<R: Read + Drop, W: Write>(
+    alloc: Global,
+    input: R,
+    page: &mut W,
+    format: Format,
+) -> Result<Ending, ServeError> {
+    explain(alloc, input, page, format)
+}
+
+/// Runs `negotiate` on any input.
+fn run_negotiate<R: Read + Drop, W: Write>(
+    alloc: Global,
+    input: R,
+    page: &mut W,
+) -> Result<Ending, ServeError> {
+    negotiate(alloc, input, page)
+}
+
 /// Runs a program on an input, and returns how it ended. It prints on the page.
 fn serve(
     alloc: Global,
@@ -60,11 +79,11 @@ fn serve(
     page: &mut Vec<u8>,
 ) -> Result<Ending, ServeError> {
     match over {
-        Over::Explain => explain(alloc, input, page, Format::Lines),
-        Over::Diagram => explain(alloc, input, page, Format::Diagram),
+        Over::Explain => run_explain(alloc, input, page, Format::Lines),
+        Over::Diagram => run_explain(alloc, input, page, Format::Diagram),
         Over::Replies => reply(alloc, WrongLines::Reply, input, page),
         Over::RepliesAndEmptyLines => { reply(alloc, WrongLines::ReplyAndEmptyLine, input, page) }
-        _ => negotiate(alloc, input, page),
+        _ => run_negotiate(alloc, input, page),
     }
 }
 

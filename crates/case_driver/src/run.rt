@@ -4,6 +4,7 @@ use crate::case_error::{CaseError, write_answer};
 use crate::descriptions::call_in;
 use crate::forms::{write_changed, write_decoded, write_fronts};
 use crate::given::Given;
+use crate::known::Known;
 use crate::left::{write_left, write_list, write_services};
 use crate::programs::{write_said, write_served};
 use crate::subject::Subject;
@@ -40,9 +41,21 @@ pub struct Run<S> {
     places: Places,
 }
 
+/// What answers the questions of a run.
+pub trait Answers {
+    /// Writes the answer to a question.
+    fn answer(
+        &mut self,
+        alloc: Global,
+        given: &mut Given,
+        question: &str,
+        text: &mut String,
+    ) -> Result<(), CaseError>;
+}
+
 /// A question that isn't a single access.
 #[derive(Clone, Copy)]
-enum Question {
+pub enum Question {
     Call,
     Close,
     Slot,
@@ -57,7 +70,7 @@ enum Question {
 
 /// A question that needs no storage.
 #[derive(Clone, Copy)]
-enum Value {
+pub enum Value {
     Serve,
     Says,
     Decode,
@@ -98,6 +111,37 @@ const QUESTIONS: [(&str, Question); 23] = [
     ("refusal", Question::Value(Value::Refusal)),
 ];
 
+/// Returns which question a word begins.
+pub fn question_of(word: &str) -> Result<Question, CaseError> {
+    named(&QUESTIONS, word)
+}
+
+/// Adds the service and the node of a call, and returns its slot.
+pub fn add_named(alloc: Global, known: &mut Known, call: &str) -> Result<usize, CaseError> {
+    let (pattern, rest) = first_word(call);
+    let (_how, rest) = first_word(rest);
+    let (node, rest) = first_word(rest);
+    let (slot, rest) = first_word(rest);
+    let (name, _terms) = first_word(rest);
+    let (node, slot) = (number(node)?, number(slot)?);
+    let service = format!(in alloc; "{pattern} {name}")?;
+    let _hash = known.add_service(alloc, service.as_str())?;
+    known.add_node(node)?;
+    Ok(slot as usize)
+}
+
+/// Writes how many accesses a storage was asked for, and how many of them are looks, openings and makings.
+pub fn write_numbers(
+    accesses: u64,
+    [looks, openings, makings]: [u64; 3],
+    text: &mut String,
+) -> Result<(), AllocError> {
+    write!(
+        text,
+        "{accesses} accesses, {looks} looks, {openings} openings, {makings} makings"
+    )
+}
+
 /// Writes the answer to a question that needs no storage.
 fn answer_value(
     alloc: Global,
@@ -126,36 +170,6 @@ fn answer_value(
 }
 
 impl<S: Subject> Run<S> {
-    /// Writes the answer to a question.
-    pub fn answer(
-        &mut self,
-        alloc: Global,
-        given: &mut Given,
-        question: &str,
-        text: &mut String,
-    ) -> Result<(), CaseError> {
-        let (word, rest) = first_word(question);
-        match named(&QUESTIONS, word) {
-            Ok(Question::Call) => self.call(alloc, given, question, text),
-            Ok(Question::Close) => self.close(number(rest)? as usize, text),
-            Ok(Question::Slot) => self.write_slot(number(rest)? as usize, text),
-            Ok(Question::Left) => {
-                let storage = self.storage.inner();
-                Ok(write_left(alloc, storage, (&given.known, &given.said), text)?)
-            }
-            Ok(Question::List) => {
-                Ok(write_list(alloc, self.storage.inner(), &given.known, text)?)
-            }
-            Ok(Question::Services) => { Ok(write_services(alloc, self.storage.inner(), text)?) }
-            Ok(Question::Abandon) => self.abandon(number(rest)? as usize, text),
-            Ok(Question::Clean) => self.storage.inner_mut().clean_up(number(rest)?, text),
-            Ok(Question::Adopt) => self.storage.inner_mut().take_in(number(rest)?, text),
-            Ok(Question::Value(value)) => answer_value(alloc, given, (value, rest), text),
-            Err(CaseError) if question.trim() == "counts" => Ok(self.write_counts(text)?),
-            Err(CaseError) => self.access(alloc, given, (word, rest), text),
-        }
-    }
-
     /// Carries out a call, and writes its reply.
     fn call(
         &mut self,
@@ -164,13 +178,8 @@ impl<S: Subject> Run<S> {
         line: &str,
         text: &mut String,
     ) -> Result<(), CaseError> {
+        let slot = add_named(alloc, &mut given.known, line)?;
         let call = call_in(alloc, line)?;
-        let (pattern, _) = first_word(line);
-        let name = call.name.as_str();
-        let service = format!(in alloc; "{pattern} {name}")?;
-        let _hash = given.known.add_service(alloc, service.as_str())?;
-        given.known.add_node(call.node)?;
-        let slot = call.slot;
         let reply = self
             .places
             .call::<Standing<Faulty<S>>>(call, &mut self.storage);
@@ -218,12 +227,9 @@ impl<S: Subject> Run<S> {
 
     /// Writes how many accesses the storage was asked for.
     fn write_counts(&self, text: &mut String) -> Result<(), AllocError> {
-        let (accesses, looks) = (self.storage.accesses(), self.storage.looks());
-        let (openings, makings) = (self.storage.openings(), self.storage.makings());
-        write!(
-            text,
-            "{accesses} accesses, {looks} looks, {openings} openings, {makings} makings"
-        )
+        let storage = &self.storage;
+        let numbers = [storage.looks(), storage.openings(), storage.makings()];
+        write_numbers(storage.accesses(), numbers, text)
     }
 
     /// Writes what a slot holds.
@@ -231,6 +237,37 @@ impl<S: Subject> Run<S> {
         match self.places.factory(slot) {
             Some((number, description)) => Ok(write_factory(number, description, text)?),
             None => Ok(text.push_str("empty")?),
+        }
+    }
+}
+
+impl<S: Subject> Answers for Run<S> {
+    fn answer(
+        &mut self,
+        alloc: Global,
+        given: &mut Given,
+        question: &str,
+        text: &mut String,
+    ) -> Result<(), CaseError> {
+        let (word, rest) = first_word(question);
+        match question_of(word) {
+            Ok(Question::Call) => self.call(alloc, given, question, text),
+            Ok(Question::Close) => self.close(number(rest)? as usize, text),
+            Ok(Question::Slot) => self.write_slot(number(rest)? as usize, text),
+            Ok(Question::Left) => {
+                let storage = self.storage.inner();
+                Ok(write_left(alloc, storage, (&given.known, &given.said), text)?)
+            }
+            Ok(Question::List) => {
+                Ok(write_list(alloc, self.storage.inner(), &given.known, text)?)
+            }
+            Ok(Question::Services) => { Ok(write_services(alloc, self.storage.inner(), text)?) }
+            Ok(Question::Abandon) => self.abandon(number(rest)? as usize, text),
+            Ok(Question::Clean) => self.storage.inner_mut().clean_up(number(rest)?, text),
+            Ok(Question::Adopt) => self.storage.inner_mut().take_in(number(rest)?, text),
+            Ok(Question::Value(value)) => answer_value(alloc, given, (value, rest), text),
+            Err(CaseError) if question.trim() == "counts" => Ok(self.write_counts(text)?),
+            Err(CaseError) => self.access(alloc, given, (word, rest), text),
         }
     }
 }
@@ -247,6 +284,17 @@ pub fn run_lines<S: Subject>(
     let storage = Faulty::new(storage, refused);
     let places = Places::new(alloc)?;
     let mut run = Run { storage, places };
+    answer_lines(alloc, given, &mut run, lines, text)
+}
+
+/// Carries out lines, and writes the answers to questions.
+pub fn answer_lines<A: Answers>(
+    alloc: Global,
+    given: &mut Given,
+    run: &mut A,
+    lines: &[&str],
+    text: &mut String,
+) -> Result<(), AllocError> {
     let mut answer = String::new(alloc);
     for line in lines {
         match line.strip_prefix("? ") {
@@ -256,7 +304,7 @@ pub fn run_lines<S: Subject>(
                 write_answer(done, line, Some(answer.as_str()), text)?;
             }
             None => match line.strip_prefix("! ") {
-                Some(question) => starve::ask(alloc, given, &mut run, question, text)?,
+                Some(question) => starve::ask(alloc, given, run, question, text)?,
                 None => write_answer(given.add(alloc, line), line, None, text)?,
             },
         }

@@ -3,9 +3,8 @@
 
 use crate::case_error::{CaseError, write_answer};
 use crate::given::Given;
-use crate::run::Run;
+use crate::run::Answers;
 use crate::storages::carry_out;
-use crate::subject::Subject;
 use std::alloc::{AllocError, Global};
 use test_support::refusing::{MODES, Mode, Refused, end, refuse};
 
@@ -49,10 +48,10 @@ fn write_try(
 }
 
 /// Asks with memory what is left, then the same question again, and then what is left.
-fn ask_again<S: Subject>(
+fn ask_again<A: Answers>(
     alloc: Global,
     given: &mut Given,
-    run: &mut Run<S>,
+    run: &mut A,
     question: &str,
     text: &mut String,
 ) -> Result<(), AllocError> {
@@ -66,10 +65,10 @@ fn ask_again<S: Subject>(
 }
 
 /// Asks a question while a request is refused, and then with memory. It drops the answers to the questions before it.
-pub fn ask<S: Subject>(
+pub fn ask<A: Answers>(
     alloc: Global,
     given: &mut Given,
-    run: &mut Run<S>,
+    run: &mut A,
     question: &str,
     text: &mut String,
 ) -> Result<(), AllocError> {
