@@ -1,6 +1,7 @@
 -- What goes wrong at a log, and what is written of it.
 use Rattle.std.specs.Prelude.{◌≡◌, ℕ, Bool, true, false, List, ◌++◌, Option, Some, None, Result, Err}
-use Rattle.std.specs.Prelude.{codes}
+use Rattle.std.specs.Prelude.{codes, nat_eq}
+use Rattle.std.specs.List.{starts_with}
 use Rattle.std.specs.Io.KnownBytes.{Appends}
 use Rattle.std.specs.declared.io.ErrorKind.{ErrorKind}
 use Rattle.std.specs.declared.io.ErrorKind.TheVariants as system
@@ -123,7 +124,7 @@ database_advice_of database.NotUnderstood =
     codes "start it by wulameron-postgres, with the server's messages in English"
 database_advice_of database.NoSchema = codes "have its owner run schema.sql in it"
 database_advice_of (database.AnotherVersion found) = codes "use a program of that version"
-database_advice_of database.NoLog = codes "name another log, or make it by `wulameron hold`"
+database_advice_of database.NoLog = codes "name another log, or make it by `wulameron-postgres hold`"
 database_advice_of database.BadName = codes "name it by letters, digits, points, dashes and underscores"
 database_advice_of database.NoRight = codes "have its owner grant wulameron_node to the role"
 database_advice_of database.ReadOnly = codes "connect to the server that takes writes"
@@ -150,6 +151,18 @@ abbrev pub unopened_text : Trouble → Option (List ℕ)
 unopened_text (trouble.Refused (file.Failed system.NotFound)) =
     Some (codes "there is no log; name another by --at, or make it by `wulameron hold`")
 unopened_text other = trouble_text other
+
+-- a log of this path is in a database
+abbrev pub is_in_database : (path : List ℕ) → Bool
+is_in_database path = starts_with nat_eq path (codes "postgres:")
+
+-- what is told where something of a node stays, with the command that releases it
+abbrev pub stays_by : (is_in_database : Bool) → List ℕ
+stays_by true = codes "the log refused to release what this node holds; run `wulameron-postgres clean`"
+stays_by false = codes "the log refused to release what this node holds; run `wulameron clean`"
+
+abbrev pub stays_text : (path : List ℕ) → List ℕ
+stays_text path = stays_by (is_in_database path)
 
 -- the line of a trouble with the log of this path
 abbrev pub trouble_line : (path text : List ℕ) → List ℕ

@@ -4,7 +4,8 @@ ghost use Rattle.std.specs.Prelude.{◌≡◌, List, ℕ, Option, Some, IfOk, co
 ghost use Rattle.wulameron_place.specs.Nodes.{node_line};
 ghost use Rattle.negotiate_serve.specs.Outputs.{Writes};
 ghost use Rattle.negotiate_serve.specs.Reports.{failure_line};
-ghost use Rattle.wulameron_place.specs.Troubles.{WritesLine, WritesNoMemory, last_of, trouble_line, unopened_text};
+ghost use Rattle.wulameron_place.specs.Troubles.{WritesLine, WritesNoMemory, is_in_database, last_of, stays_text};
+ghost use Rattle.wulameron_place.specs.Troubles.{trouble_line, unopened_text};
 
 use crate::claims::{NodeError, TokenTrouble};
 use crate::halt::Halt;
@@ -17,11 +18,32 @@ use negotiate_serve::report::{report, report_failure};
 use std::alloc::{AllocError, Global};
 use std::fmt;
 use std::io::{ErrorKind, Write};
+use wulameron_arguments::asked::DATABASE;
 
 const NO_LOG: &str = "there is no log; name another by --at, or make it by `wulameron hold`";
 
-/// What is told if something of a node stays.
+/// What is told if something of a node stays, at a log in a file and in a database.
 pub const STAYS: &str = "the log refused to release what this node holds; run `wulameron clean`";
+
+const STAYS_IN_DATABASE: &str =
+    "the log refused to release what this node holds; run `wulameron-postgres clean`";
+
+/// Returns whether a log of this path is in a database.
+fn is_in_database(path: &str) -> bool
+    ensures { result ≡ is_in_database path.now }
+{
+    path.starts_with(DATABASE)
+}
+
+/// Returns what is told if something of a node stays at the log of this path.
+fn stays(path: &str) -> &'static str
+    ensures { result.now ≡ stays_text path.now }
+{
+    match is_in_database(path) {
+        true => STAYS_IN_DATABASE,
+        false => STAYS,
+    }
+}
 
 /// A writer of errors for the log of a path.
 #[derive(Drop)]
@@ -117,6 +139,16 @@ impl<'a, E: Write> Reports<'a, E> {
         }
     }
 
+    /// Writes the line that something of a node stays, with the command that releases it.
+    ///
+    /// `ServeError` as `tell` does.
+    pub fn tell_stays(&mut self) -> Result<(), ServeError>
+        ensures { WritesLine (trouble_line self.old.path.now (stays_text self.old.path.now)) result
+            (E.contents self.old.errors) (E.contents self.new.errors) }
+    {
+        self.tell(stays(self.path))
+    }
+
     /// Writes the line of a failure that isn't of the log. `ServeError` as `write_out` does.
     pub fn tell_failure(&mut self, fault: ServeError) -> Result<(), ServeError>
         ensures { Writes (failure_line (codes "wulameron") fault) result
@@ -143,7 +175,7 @@ impl<'a, E: Write> Reports<'a, E> {
             Halt::Serving(fault) => self.fail(fault),
             Halt::Log(_) => FAULT,
             Halt::Owing => {
-                let _ = self.tell(STAYS);
+                let _ = self.tell_stays();
                 FAULT
             }
         }

@@ -128,7 +128,7 @@ pub fn database_advice(fault: PostgresFault) -> &'static str
             "start it by wulameron-postgres, with the server's messages in English",
         PostgresFault::NoSchema => "have its owner run schema.sql in it",
         PostgresFault::AnotherVersion { found: _ } => "use a program of that version",
-        PostgresFault::NoLog => "name another log, or make it by `wulameron hold`",
+        PostgresFault::NoLog => "name another log, or make it by `wulameron-postgres hold`",
         PostgresFault::BadName => "name it by letters, digits, points, dashes and underscores",
         PostgresFault::NoRight => "have its owner grant wulameron_node to the role",
         PostgresFault::ReadOnly => "connect to the server that takes writes",
