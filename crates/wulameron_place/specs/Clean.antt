@@ -17,4 +17,4 @@ AreWanted (Some node) nodes = nodes ≡ node ∷ []
 abbrev pub uncleaned_text : ℕ → List ℕ
 uncleaned_text node =
     codes "node " ++ decimal node
-    ++ codes " keeps what it has, as its claim or the log refused; run `wulameron clean` again"
+    ++ codes " keeps what it has, as its claim or the log refused; run `clean` again"

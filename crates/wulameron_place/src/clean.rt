@@ -31,7 +31,7 @@ use wulameron_arguments::asked::{Clean, Place};
 pub const NOT_DEAD: u8 = 1;
 
 /// What a world refuses if it refuses a step of a rehearsal.
-pub const STAYS: &str = "refuses to release what a dead node has; run `wulameron check`";
+pub const STAYS: &str = "refuses to release what a dead node has; run `check`";
 
 /// Why there are no nodes to clean up for.
 #[derive(Drop)]
@@ -189,7 +189,7 @@ impl fmt::Display for Uncleaned {
         let node = self.node;
         write!(
             f,
-            "node {node} keeps what it has, as its claim or the log refused; run `wulameron clean` again"
+            "node {node} keeps what it has, as its claim or the log refused; run `clean` again"
         )
     }
 }

@@ -23,7 +23,7 @@ use wulameron_arguments::asked::DATABASE;
 const NO_LOG: &str = "there is no log; name another by --at, or make it by `wulameron hold`";
 
 /// What is told if something of a node stays, at a log in a file and in a database.
-pub const STAYS: &str = "the log refused to release what this node holds; run `wulameron clean`";
+const STAYS: &str = "the log refused to release what this node holds; run `wulameron clean`";
 
 const STAYS_IN_DATABASE: &str =
     "the log refused to release what this node holds; run `wulameron-postgres clean`";

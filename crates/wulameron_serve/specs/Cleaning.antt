@@ -129,7 +129,7 @@ pub record RehearsesSum (nodes : List ℕ) (w : World) (g : Given) (v : World) :
   pub is : g ≡ given_from nothing_given given
 
 abbrev pub stays_why : List ℕ
-stays_why = codes "the log refuses to release what a dead node has; run `wulameron check`"
+stays_why = codes "the log refuses to release what a dead node has; run `check`"
 
 -- It is told what would be given back in a world; or why there are no nodes; or that the world isn't had, or refuses.
 pub data RehearsesAsked (named : Option ℕ) (text : List ℕ) : Type 0 where

@@ -37,7 +37,7 @@ use wulameron_arguments::asked::Hold;
 use wulameron_place::dead::{DeadNodes, PlaceNodes};
 use wulameron_place::node_log::NodeLog;
 use wulameron_place::opening::{claim, states};
-use wulameron_place::reports::{Reports, STAYS};
+use wulameron_place::reports::Reports;
 use wulameron_place::trouble::{Refusing, Trouble, Troubled, last_trouble};
 use wulameron_view::viewing::report_look;
 
@@ -408,7 +408,7 @@ fn end_hold<E: Write>(
     }
     if !is_settled {
         if last_trouble(trouble).is_none() {
-            let _ = reports.tell(STAYS);
+            let _ = reports.tell_stays();
         }
         return FAULT;
     }
