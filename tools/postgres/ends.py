@@ -22,6 +22,8 @@ ENDED = ["ended"]
 # How often a process is stopped until that is within a hold, and how long it then has to stand there: until whatever it
 # had asked before has come to the server. How often all of it is tried where more was on its way.
 TRIES, STANDS, ATTEMPTS = 2000, 0.2, 8
+# How long the server may take to end a session once it has begun to.
+ENDING = 1
 
 
 def work(process, count=400):
@@ -92,7 +94,7 @@ def stopped(site, owner, is_psql):
         began = time.monotonic()
         reply = other.reply(f"event create 2 {attempt} meanwhile-{attempt}")
         waited = time.monotonic() - began
-        left = session_of(owner, process)
+        left = left_of(owner, process)
         if not left or holds(left):
             break
         # What was on its way has let go.
@@ -106,6 +108,17 @@ def stopped(site, owner, is_psql):
     ran = other.end()
     checks.need(ran.status == 0 and not ran.err, f"the other process: {ran}")
     check_rest(site, name, "after a stop within a hold", (1, 2))
+
+
+def left_of(owner, process):
+    """What a session is at whose gate another one got; nothing if the server has ended it. A session that ends has let go of
+    the gate a moment before the server stops telling of it."""
+    end = time.monotonic() + ENDING
+    found = session_of(owner, process)
+    while found and not holds(found) and time.monotonic() < end:
+        time.sleep(0.01)
+        found = session_of(owner, process)
+    return found
 
 
 def go_on(pid):
