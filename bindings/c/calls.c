@@ -508,7 +508,8 @@ static void what_is_wrong(void)
     CHECK(strcmp(wulameron_code_text(WULAMERON_OK), "done") == 0);
     CHECK(strcmp(wulameron_code_text(WULAMERON_NONE), "the setting has no value") == 0);
     CHECK(strcmp(wulameron_code_text(WULAMERON_NODE_ALIVE), "the node is alive") == 0);
-    CHECK(strcmp(wulameron_code_text(WULAMERON_NODE_ALIVE + 1), "no such code") == 0);
+    CHECK(strcmp(wulameron_code_text(WULAMERON_LOST), "the session was lost; open again") == 0);
+    CHECK(strcmp(wulameron_code_text(WULAMERON_LOST + 1), "no such code") == 0);
 }
 
 int main(int count, char **words)
