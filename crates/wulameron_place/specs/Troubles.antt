@@ -175,7 +175,8 @@ no_memory_line = failure_line (codes "wulameron") failure.OutOfMemory
 -- The line that there is no memory is written whole, or the writer fails and has taken a front of it.
 pub data WritesNoMemory : ServeError → (old new : Option (List ℕ)) → Type 0 where
   whole : {old new : Option (List ℕ)} → Appends old new no_memory_line → WritesNoMemory failure.OutOfMemory old new
-  failed : {f : ServeError} {old new : Option (List ℕ)} → Writes no_memory_line (Err f) old new → WritesNoMemory f old new
+  failed : {f : ServeError} {old new : Option (List ℕ)} → Writes no_memory_line (Err f) old new
+      → WritesNoMemory f old new
 
 -- The line is written, as far as the writer takes it. If there was no memory for it, the line of that is written so:
 -- memory is what is answered only after that line was written whole.
