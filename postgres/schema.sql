@@ -1,4 +1,4 @@
--- Logs of Wulameron in a database, version 2: the tables, what guards them, and the role of the nodes.
+-- Logs of Wulameron in a database, version 3: the tables, what guards them, and the role of the nodes.
 --
 -- Run it once, as the owner of a database of its own who may make roles (or for whom wulameron_node was made):
 --
@@ -156,7 +156,7 @@ begin
     if makes then
         perform wulameron.made(opened.name);
     end if;
-    return query select concat_ws(' ', 2, l.log, l.generation, l.counter, l.snapshot, encode(e.chain, 'hex'))
+    return query select concat_ws(' ', 3, l.log, l.generation, l.counter, l.snapshot, encode(e.chain, 'hex'))
         from wulameron.logs l join wulameron.entries e on e.log = l.log and e.generation = l.generation and e.seq = 0
         where l.name = opened.name;
 end
@@ -341,14 +341,18 @@ create function wulameron.give_back() returns void language sql
         where id in (select wulameron.locked('wulameron.nodes', true))
 $$;
 
--- `NODE alive` or `NODE dead` of each node that was ever claimed, by rising number.
+-- `NODE alive`, `NODE lost` or `NODE dead` of each node that was ever claimed, by rising number. A node is told as lost for as
+-- long as this session wouldn't get it.
 create function wulameron.nodes(name text) returns setof text language plpgsql
     security definer set search_path = pg_catalog, pg_temp as $$
 begin
     perform wulameron.no_replica();
     perform wulameron.find_lost(l.log) from wulameron.logs l where l.name = nodes.name;
     return query select n.node || case
-            when n.id in (select wulameron.locked('wulameron.nodes', false)) then ' alive' else ' dead' end
+            when n.id in (select wulameron.locked('wulameron.nodes', false)) then ' alive'
+            when wulameron.lost_for(n.id) > 0 then ' lost'
+            else ' dead'
+        end
         from wulameron.nodes n join wulameron.logs l using (log) where l.name = nodes.name order by n.node;
 end
 $$;

@@ -95,7 +95,7 @@ const FOLLOWED: &str = r"
 
 #[test]
 fn a_mark_leads_to_the_next_generation(rt: HostRuntime) {
-    let told = "2 7 1 0 1 $\nopened 00000\n0 $ 2\n1 $ %\n2 $ %\nread 00000\n";
+    let told = "3 7 1 0 1 $\nopened 00000\n0 $ 2\n1 $ %\n2 $ %\nread 00000\n";
     assert_asks(
         &rt,
         rt.alloc(),
@@ -121,7 +121,7 @@ const NOT_FOUND: &str = r"
 
 #[test]
 fn another_log_of_the_name_is_another_history(rt: HostRuntime) {
-    for told in ["2 7 0 1 0 $\nopened 00000\n", "2 8 1 0 1 $\nopened 00000\n"] {
+    for told in ["3 7 0 1 0 $\nopened 00000\n", "3 8 1 0 1 $\nopened 00000\n"] {
         assert_asks(
             &rt,
             rt.alloc(),

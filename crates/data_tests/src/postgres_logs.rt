@@ -69,11 +69,11 @@ fn a_log_is_opened_by_one_row_alone(rt: HostRuntime) {
         (OPENED, "open => ok"),
         ("opened 00000\n", "open => NoLog"),
         (
-            "1 7 0 1 0 $\nopened 00000\n",
-            "open => AnotherVersion { found: 1 }",
+            "2 7 0 1 0 $\nopened 00000\n",
+            "open => AnotherVersion { found: 2 }",
         ),
-        ("2 7 0 1 0 $0\nopened 00000\n", "open => NotUnderstood"),
-        ("2 07 0 1 0 $\nopened 00000\n", "open => NotUnderstood"),
+        ("3 7 0 1 0 $0\nopened 00000\n", "open => NotUnderstood"),
+        ("3 07 0 1 0 $\nopened 00000\n", "open => NotUnderstood"),
         ("ERROR:  3F000\nopened 3F000\n", "open => NoSchema"),
         ("ERROR:  55P03\nopened 55P03\n", "open => Busy"),
         ("", "open => SessionEnded"),
@@ -134,7 +134,7 @@ fn an_append_is_answered_by_its_place_alone(rt: HostRuntime) {
 }
 
 /// The reply that opens a log in a later generation, with a snapshot of five entries.
-const LATER: &str = "2 7 3 0 5 $\nopened 00000\n";
+const LATER: &str = "3 7 3 0 5 $\nopened 00000\n";
 
 #[test]
 fn a_handle_goes_on_in_the_same_log_alone(rt: HostRuntime) {
@@ -144,7 +144,7 @@ fn a_handle_goes_on_in_the_same_log_alone(rt: HostRuntime) {
         (LATER, OPENED, "again => AnotherHistory"),
         (
             OPENED,
-            "2 8 0 1 0 $\nopened 00000\n",
+            "3 8 0 1 0 $\nopened 00000\n",
             "again => AnotherHistory",
         ),
         (OPENED, "opened 00000\n", "again => NoLog"),

@@ -4,7 +4,7 @@
 use crate::support::assert_same;
 use iceoryx2_postgres_log::fault::PostgresFault;
 use iceoryx2_postgres_log::name::is_log_name;
-use iceoryx2_postgres_log::nodes::{NodeRow, claim, claim_dead, claim_free, list, release};
+use iceoryx2_postgres_log::nodes::{Life, NodeRow, claim, claim_dead, claim_free, list, release};
 
 /// What is answered, and how many bytes of the lines are left.
 type Answer<T> = (Result<T, PostgresFault>, usize);
@@ -24,7 +24,7 @@ select wulameron.nodes('lamps');
 
 /// Replies to these, and a line behind them.
 const REPLIES: &str = "t\nclaimed 00000\nf\nclaimed 00000\nt\nreleased 00000\n17\nclaimed 00000
-3 alive\n17 dead\nlisted 00000\nmore\n";
+3 alive\n16 lost\n17 dead\nlisted 00000\nmore\n";
 
 /// Asks each question once, and gives what was asked, whether each had the answer that it is told, and what is left.
 fn ask_all(rt: &HostRuntime) -> Option<(String, [bool; 5], usize)> {
@@ -41,13 +41,19 @@ fn ask_all(rt: &HostRuntime) -> Option<(String, [bool; 5], usize)> {
         dead == Ok(false),
         released == Ok(true),
         free == Ok(Some(17)),
-        nodes.as_slice() == [row(3, true), row(17, false)].as_slice(),
+        nodes.as_slice()
+            == [
+                row(3, Life::Alive),
+                row(16, Life::Lost),
+                row(17, Life::Dead),
+            ]
+            .as_slice(),
     ];
     Some((String::from_utf8(asked).ok()?, right, told.len()))
 }
 
-const fn row(node: u64, is_alive: bool) -> NodeRow {
-    NodeRow { node, is_alive }
+const fn row(node: u64, life: Life) -> NodeRow {
+    NodeRow { node, life }
 }
 
 #[test]
@@ -156,6 +162,9 @@ fn nodes_are_listed_by_rising_number(rt: HostRuntime) {
     for (told, wanted) in [
         ("listed 00000\n", Ok(0)),
         ("0 alive\n18446744073709551615 dead\nlisted 00000\n", Ok(2)),
+        ("0 lost\nlisted 00000\n", Ok(1)),
+        ("0 lost \nlisted 00000\n", Err(PostgresFault::NotUnderstood)),
+        ("lost\nlisted 00000\n", Err(PostgresFault::NotUnderstood)),
         (
             "2 dead\n0 alive\nlisted 00000\n",
             Err(PostgresFault::NotUnderstood),

@@ -63,7 +63,7 @@ const MARK: &str =
     "0000001dffffffe20e5303137d02872b0b00000000000000000000000000000000000000000000000000000000";
 
 /// The server's reply that opens a new log, which has no entry yet.
-pub const OPENED: &str = "2 7 0 1 0 $\nopened 00000\n";
+pub const OPENED: &str = "3 7 0 1 0 $\nopened 00000\n";
 
 /// The server's reply to a hold of that log.
 pub const HELD: &str = "\n0 $ 0\nheld 00000\n";

@@ -16,11 +16,14 @@ use std::fs::{self, DirEntry, File, TryLockError};
 use std::io::{self, ErrorKind};
 use std::rt::Files;
 
-/// The state of a node: alive or not.
+/// The state of a node.
 #[derive(Clone, Copy, Debug, PartialEq, Eq)]
 pub enum NodeState {
     /// A token of the node stands, of this process or another.
     Alive,
+    /// The node's session with a database has ended, and its process may not know that yet. For some
+    /// seconds nobody else gets the node. A node that is claimed by a file is never lost.
+    Lost,
     /// The node was claimed, and the process that held its token is gone, or let the token go.
     Dead,
     /// The node was never claimed: there is no file of it.

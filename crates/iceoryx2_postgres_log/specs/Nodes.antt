@@ -3,6 +3,8 @@ use Rattle.std.specs.Prelude.{◌≡◌, ℕ, ◌<◌, ◌⊎◌, Bool, true, fa
 use Rattle.std.specs.Prelude.{All, codes, decimal}
 use Rattle.iceoryx2_postgres_log.specs.declared.fault.PostgresFault.{PostgresFault}
 use Rattle.iceoryx2_postgres_log.specs.declared.fault.PostgresFault.TheVariants as fault
+use Rattle.iceoryx2_postgres_log.specs.declared.nodes.Life.{Life}
+use Rattle.iceoryx2_postgres_log.specs.declared.nodes.Life.TheVariants as life
 use Rattle.iceoryx2_postgres_log.specs.declared.nodes.NodeRow.{NodeRow}
 use Rattle.iceoryx2_postgres_log.specs.Names.{IsLogName}
 use Rattle.iceoryx2_postgres_log.specs.Replies.{Asks, Refuses}
@@ -17,13 +19,14 @@ abbrev pub free_rows : Option ℕ → List (List ℕ)
 free_rows None = []
 free_rows (Some node) = decimal node ∷ []
 
-abbrev pub life_of : Bool → List ℕ
-life_of true = codes " alive"
-life_of false = codes " dead"
+abbrev pub life_word : Life → List ℕ
+life_word life.Alive = codes "alive"
+life_word life.Lost = codes "lost"
+life_word life.Dead = codes "dead"
 
 -- a node, and whether a session has it
 abbrev pub node_row : NodeRow → List ℕ
-node_row row = decimal row.node ++ life_of row.is_alive
+node_row row = decimal row.node ++ (codes " " ++ life_word row.life)
 
 -- each by a higher number than those before it
 abbrev pub IsRising : List NodeRow → Type 0

@@ -7,7 +7,7 @@ use Rattle.iceoryx2_postgres_log.specs.Rows.{place_text}
 -- what stands before the sum in a row that tells where a generation begins
 abbrev pub start_front : (log generation counter snapshot : ℕ) → List ℕ
 start_front log generation counter snapshot =
-    codes "2 " ++ (decimal log ++ (codes " " ++ (decimal generation ++ (codes " " ++ (decimal counter
+    codes "3 " ++ (decimal log ++ (codes " " ++ (decimal generation ++ (codes " " ++ (decimal counter
     ++ (codes " " ++ (decimal snapshot ++ codes " ")))))))
 
 -- The row tells that this is before the first entry.

@@ -18,11 +18,22 @@ use rows::{free_node_of, rows_of};
 use std::alloc::Global;
 use std::io::{BufRead, Write};
 
+/// Whether a session has a node.
+#[derive(Clone, Copy, Debug, PartialEq, Eq)]
+pub enum Life {
+    /// A session has it.
+    Alive,
+    /// Its session has ended, and for some seconds nobody but its own process gets it.
+    Lost,
+    /// No session has it, and any session may get it.
+    Dead,
+}
+
 /// A node that was claimed at some time, and whether a session has it now.
 #[derive(Clone, Copy, Debug, PartialEq, Eq)]
 pub struct NodeRow {
     pub node: u64,
-    pub is_alive: bool,
+    pub life: Life,
 }
 
 /// Asks a question that is answered by `t` or `f`, and nothing else.

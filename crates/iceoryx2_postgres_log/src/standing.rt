@@ -13,7 +13,7 @@ use crate::row::{SUM_LENGTH, place_front};
 use std::alloc::{AllocError, Global};
 
 /// The version of the tables.
-pub const VERSION: u64 = 2;
+pub const VERSION: u64 = 3;
 
 /// The place of a handle: behind which entry of which generation of which log it stands.
 #[derive(Debug)]
@@ -110,7 +110,7 @@ fn front(alloc: Global, start: &Start) -> Result<String, AllocError>
         counter,
         snapshot,
     } = start;
-    format!(in alloc; "2 {log} {generation} {counter} {snapshot} ")
+    format!(in alloc; "3 {log} {generation} {counter} {snapshot} ")
 }
 
 /// Returns the place before the first entry.

@@ -1,9 +1,9 @@
 //! The rows that the server tells of nodes.
 
 ghost use Rattle.std.specs.Prelude.{◌≡◌, ◌<◌, ◌∷◌, [], map, IfOk, IfSome, IsTrue, All, decimal, string_bytes};
-ghost use Rattle.iceoryx2_postgres_log.specs.Nodes.{free_rows, node_row, IsRising};
+ghost use Rattle.iceoryx2_postgres_log.specs.Nodes.{free_rows, life_word, node_row, IsRising};
 
-use super::NodeRow;
+use super::{Life, NodeRow};
 use crate::line::Line;
 use crate::number::number_of;
 use std::alloc::{AllocError, Global};
@@ -22,31 +22,44 @@ fn decimal_of(alloc: Global, line: &[u8]) -> Result<Option<u64>, AllocError>
     Ok(None)
 }
 
+/// Returns the word for whether a session has a node.
+fn word_of(life: Life) -> &'static str
+    ensures { result.now ≡ life_word life }
+{
+    match life {
+        Life::Alive => "alive",
+        Life::Lost => "lost",
+        Life::Dead => "dead",
+    }
+}
+
 /// Returns the row by which the server tells a node.
 fn row_text(alloc: Global, row: NodeRow) -> Result<String, AllocError>
     ensures { IfOk result (λ text. string_bytes text ≡ node_row row) }
 {
-    let node = row.node;
-    if row.is_alive {
-        return format!(in alloc; "{node} alive");
+    let NodeRow { node, life } = row;
+    let word = word_of(life);
+    format!(in alloc; "{node} {word}")
+}
+
+/// Returns whether a session has the node that the line seems to tell.
+fn read_life(line: &[u8]) -> Life {
+    if line.ends_with(b" alive") {
+        return Life::Alive;
     }
-    format!(in alloc; "{node} dead")
+    if line.ends_with(b" lost") {
+        return Life::Lost;
+    }
+    Life::Dead
 }
 
 /// Returns the node that the line seems to tell.
 fn read_row(line: &[u8]) -> Option<NodeRow> {
-    if let Some(digits) = line.strip_suffix(b" alive") {
-        let node = number_of(digits)?;
-        return Some(NodeRow {
-            node,
-            is_alive: true,
-        });
-    }
-    let node = number_of(line.strip_suffix(b" dead")?)?;
-    Some(NodeRow {
-        node,
-        is_alive: false,
-    })
+    let life = read_life(line);
+    let word = word_of(life);
+    let digits = line.strip_suffix(word.as_bytes())?.strip_suffix(b" ")?;
+    let node = number_of(digits)?;
+    Some(NodeRow { node, life })
 }
 
 /// Returns the node that the line tells.
