@@ -1,3 +1,4 @@
 pub mod Home
 pub mod Making
+pub mod Places
 pub mod Screens

@@ -3,11 +3,12 @@
 ghost use Rattle.std.specs.Prelude.{◌≡◌, Some, IfSome, cond, codes};
 ghost use Rattle.clap.specs.Words.{found_of, first_value};
 ghost use Rattle.wulameron_arguments.specs.Making.{asks_session};
+ghost use Rattle.wulameron_arguments.specs.Places.{is_in_database};
 ghost use Rattle.iceoryx2_file_log.specs.declared.options.Sharing.TheVariants as sharing;
 
 use crate::asked::{
     Asked, Clean, Filter, Form, Hold, List, Listed, LogLook, Look, Pattern, Place, Run, Show,
-    Shown, Wanted,
+    Shown, Wanted, is_in_database,
 };
 use crate::commands::command;
 use crate::screen::Screen;
@@ -154,6 +155,7 @@ fn form_of(matches: &ArgMatches<'_>) -> Form {
 /// Returns the list that was matched. `None` if a value is missing that each match has.
 fn list_of<'a>(screen: Screen, matches: &ArgMatches<'a>) -> Option<List<'a>>
     ensures at { IfSome result (λ list. first_value (found_of matches.now) (codes "at") ≡ Some list.place.at.now) }
+    ensures told { IfSome result (λ list. list.listed.is_in_database ≡ is_in_database list.place.at.now) }
 {
     let Look { place, shown } = look_of(screen, matches)?;
     let filter = Filter {
@@ -166,6 +168,7 @@ fn list_of<'a>(screen: Screen, matches: &ArgMatches<'a>) -> Option<List<'a>>
             shown,
             width: screen.width(matches.get_one::<u64>("width")),
             filter,
+            is_in_database: is_in_database(place.at),
         },
         watches: matches.get_flag("watch"),
     })

@@ -2,12 +2,20 @@
 
 ghost use Rattle.std.specs.Prelude.{◌≡◌, option_map};
 ghost use Rattle.wulameron_arguments.specs.Making.{is_escaped, made_log};
+ghost use Rattle.wulameron_arguments.specs.Places.{is_in_database};
 
 use crate::pipes::Pipes;
 use iceoryx2_file_log::options::FileLogOptions;
 
 /// How a log in a database is named: by this, and then its name.
 pub const DATABASE: &str = "postgres:";
+
+/// Returns whether a log of this path is in a database.
+pub fn is_in_database(path: &str) -> bool
+    ensures { result ≡ is_in_database path.now }
+{
+    path.starts_with(DATABASE)
+}
 
 /// A log in a file or in a database, and its options.
 #[derive(Clone, Copy)]
@@ -138,6 +146,8 @@ pub struct Listed<'a> {
     pub width: Option<u64>,
     /// Which ones.
     pub filter: Filter<'a>,
+    /// Whether the log is in a database, so that its commands are those of `wulameron-postgres`.
+    pub is_in_database: bool,
 }
 
 /// Asks for a list of the services of a log.

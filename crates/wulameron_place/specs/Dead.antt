@@ -12,6 +12,8 @@ use Rattle.iceoryx2_monitoring.specs.Errors.{fault_text as monitoring_text}
 use Rattle.iceoryx2_monitoring.specs.declared.error.MonitoringFault.{MonitoringFault}
 use Rattle.iceoryx2_monitoring.specs.declared.error.MonitoringFault.TheVariants as fault
 use Rattle.iceoryx2_postgres_log.specs.Faults.{fault_text as database_text}
+use Rattle.iceoryx2_postgres_log.specs.declared.nodes.Life.{Life}
+use Rattle.iceoryx2_postgres_log.specs.declared.nodes.Life.TheVariants as life
 use Rattle.wulameron_place.specs.declared.claims.Claim.{Claim}
 use Rattle.wulameron_place.specs.declared.claims.Claim.TheVariants as claim
 use Rattle.wulameron_place.specs.declared.claims.NodeError.{NodeError}
@@ -52,8 +54,15 @@ unclaimed_by (error.File e) = unclaimed_in_file e.fault
 unclaimed_by (error.Database (node_fault.IsAlive node)) = unclaimed.IsAlive
 unclaimed_by (error.Database other) = unclaimed.Refused
 
--- the number of a node of this state, where that is dead
+-- the state of a node of which a database tells this
+abbrev pub state_by : Life → NodeState
+state_by life.Alive = state.Alive
+state_by life.Lost = state.Lost
+state_by life.Dead = state.Dead
+
+-- the number of a node of this state, where that is dead or lost
 abbrev pub number_by : NodeState → ℕ → List ℕ
+number_by state.Lost node = node ∷ []
 number_by state.Dead node = node ∷ []
 number_by other node = []
 
@@ -63,6 +72,7 @@ number_if_dead s = number_by s.state s.node
 -- why a node of this state isn't cleaned up for
 abbrev pub not_dead_of : (node : ℕ) → NodeState → Option NotDead
 not_dead_of node state.Alive = Some (not_dead.IsAlive node)
+not_dead_of node state.Lost = None
 not_dead_of node state.Dead = None
 not_dead_of node state.DoesNotExist = Some (not_dead.NeverClaimed node)
 

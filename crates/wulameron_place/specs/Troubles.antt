@@ -1,7 +1,6 @@
 -- What goes wrong at a log, and what is written of it.
-use Rattle.std.specs.Prelude.{◌≡◌, ℕ, Bool, true, false, List, ◌++◌, Option, Some, None, Result, Err}
-use Rattle.std.specs.Prelude.{codes, nat_eq}
-use Rattle.std.specs.List.{starts_with}
+use Rattle.std.specs.Prelude.{ℕ, Bool, true, false, List, ◌++◌, Option, Some, None, Result, Err}
+use Rattle.std.specs.Prelude.{codes}
 use Rattle.std.specs.Io.KnownBytes.{Appends}
 use Rattle.std.specs.declared.io.ErrorKind.{ErrorKind}
 use Rattle.std.specs.declared.io.ErrorKind.TheVariants as system
@@ -19,6 +18,7 @@ use Rattle.negotiate_serve.specs.declared.ending.ServeError.{ServeError}
 use Rattle.negotiate_serve.specs.declared.ending.ServeError.TheVariants as failure
 use Rattle.negotiate_serve.specs.Outputs.{Writes}
 use Rattle.negotiate_serve.specs.Reports.{failure_line}
+use Rattle.wulameron_arguments.specs.Places.{is_in_database}
 use Rattle.wulameron_place.specs.declared.trouble.Trouble.{Trouble}
 use Rattle.wulameron_place.specs.declared.trouble.Trouble.TheVariants as trouble
 
@@ -151,10 +151,6 @@ abbrev pub unopened_text : Trouble → Option (List ℕ)
 unopened_text (trouble.Refused (file.Failed system.NotFound)) =
     Some (codes "there is no log; name another by --at, or make it by `wulameron hold`")
 unopened_text other = trouble_text other
-
--- a log of this path is in a database
-abbrev pub is_in_database : (path : List ℕ) → Bool
-is_in_database path = starts_with nat_eq path (codes "postgres:")
 
 -- what is told where something of a node stays, with the command that releases it
 abbrev pub stays_by : (is_in_database : Bool) → List ℕ

@@ -2,7 +2,7 @@
 //! database they are rows, and locks of the database's session.
 
 ghost use Rattle.std.specs.Prelude.{◌≡◌, IfOk, IfSome};
-ghost use Rattle.wulameron_place.specs.Dead.{named_node, token_advice_of};
+ghost use Rattle.wulameron_place.specs.Dead.{named_node, state_by, token_advice_of};
 
 use crate::trouble::{advice, database_advice};
 use iceoryx2_file_log::error::FileFault;
@@ -11,7 +11,7 @@ use iceoryx2_monitoring::error::{MonitoringError, MonitoringFault};
 use iceoryx2_monitoring::state::{self, NodeState, NodeStatus};
 use iceoryx2_monitoring::token::{self, Token};
 use iceoryx2_postgres_log::fault::PostgresFault;
-use iceoryx2_postgres_log::nodes::{self, NodeRow};
+use iceoryx2_postgres_log::nodes::{self, Life, NodeRow};
 use std::alloc::Global;
 use std::fmt;
 use std::fs::File;
@@ -240,15 +240,17 @@ fn list_of_database(
     Ok(found)
 }
 
-fn status_of(row: NodeRow) -> NodeStatus {
-    NodeStatus {
-        node: row.node,
-        state: if row.is_alive {
-            NodeState::Alive
-        } else {
-            NodeState::Dead
-        },
-    }
+/// Returns the state of a node by the row of a database.
+fn status_of(row: NodeRow) -> NodeStatus
+    ensures { result ≡ record { node = row.node; state = state_by row.life } }
+{
+    let NodeRow { node, life } = row;
+    let state = match life {
+        Life::Alive => NodeState::Alive,
+        Life::Lost => NodeState::Lost,
+        Life::Dead => NodeState::Dead,
+    };
+    NodeStatus { node, state }
 }
 
 /// Returns whether this node is alive.

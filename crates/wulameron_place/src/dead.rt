@@ -22,10 +22,10 @@ pub trait DeadNodes {
     /// What keeps others from claiming a node, until it is released.
     type Claim: Drop;
 
-    /// Returns nodes that were dead a moment ago. None if they can't be had, or there is no memory.
+    /// Returns nodes that were dead or lost a moment ago. None if they can't be had, or there is no memory.
     fn found(&self, alloc: Global) -> Vec<u64>;
 
-    /// Claims a node, if it is still dead.
+    /// Claims a node, if it is still dead. It waits while the node is lost.
     fn claim(&self, node: u64) -> Result<Self::Claim, Unclaimed>;
 
     /// Releases a claim.
@@ -84,13 +84,13 @@ impl fmt::Display for NotDead {
     }
 }
 
-/// Returns why a node of this state isn't cleaned up for. `None` if it is.
+/// Returns why a node of this state isn't cleaned up for. `None` if it is: a lost node is, as soon as it can be claimed.
 pub fn not_dead(node: u64, state: NodeState) -> Option<NotDead>
     ensures { result ≡ not_dead_of node state }
 {
     match state {
         NodeState::Alive => Some(NotDead::IsAlive { node }),
-        NodeState::Dead => None,
+        NodeState::Lost | NodeState::Dead => None,
         NodeState::DoesNotExist => Some(NotDead::NeverClaimed { node }),
     }
 }
@@ -114,7 +114,7 @@ impl<'a, F> PlaceNodes<'a, F> {
     }
 }
 
-/// Returns the dead ones, in their order. `AllocError` if there is no memory.
+/// Returns the dead and the lost ones, in their order. `AllocError` if there is no memory.
 pub fn dead_of(alloc: Global, nodes: &[NodeStatus]) -> Result<Vec<u64>, AllocError>
     ensures { IfOk result (λ dead. dead.items ≡ flat_map number_if_dead nodes.now) }
 {
@@ -125,16 +125,16 @@ pub fn dead_of(alloc: Global, nodes: &[NodeStatus]) -> Result<Vec<u64>, AllocErr
     Ok(dead)
 }
 
-/// Adds a node to these, if it is dead.
+/// Adds a node to these, if it is dead or lost.
 fn push_if_dead(status: NodeStatus, dead: &mut Vec<u64>) -> Result<(), AllocError>
     ensures { OnOk result (dead.new.items ≡ dead.old.items ++ number_if_dead status) }
 {
     match status.state {
-        NodeState::Dead => {
+        NodeState::Lost | NodeState::Dead => {
             dead.push(status.node)?;
             Ok(())
         }
-        _ => Ok(()),
+        NodeState::Alive | NodeState::DoesNotExist => Ok(()),
     }
 }
 

@@ -4,7 +4,8 @@ ghost use Rattle.std.specs.Prelude.{◌≡◌, List, ℕ, Option, Some, IfOk, co
 ghost use Rattle.wulameron_place.specs.Nodes.{node_line};
 ghost use Rattle.negotiate_serve.specs.Outputs.{Writes};
 ghost use Rattle.negotiate_serve.specs.Reports.{failure_line};
-ghost use Rattle.wulameron_place.specs.Troubles.{WritesLine, WritesNoMemory, is_in_database, last_of, stays_text};
+ghost use Rattle.wulameron_arguments.specs.Places.{is_in_database};
+ghost use Rattle.wulameron_place.specs.Troubles.{WritesLine, WritesNoMemory, last_of, stays_text};
 ghost use Rattle.wulameron_place.specs.Troubles.{trouble_line, unopened_text};
 
 use crate::claims::{NodeError, TokenTrouble};
@@ -18,7 +19,7 @@ use negotiate_serve::report::{report, report_failure};
 use std::alloc::{AllocError, Global};
 use std::fmt;
 use std::io::{ErrorKind, Write};
-use wulameron_arguments::asked::DATABASE;
+use wulameron_arguments::asked::is_in_database;
 
 const NO_LOG: &str = "there is no log; name another by --at, or make it by `wulameron hold`";
 
@@ -27,13 +28,6 @@ const STAYS: &str = "the log refused to release what this node holds; run `wulam
 
 const STAYS_IN_DATABASE: &str =
     "the log refused to release what this node holds; run `wulameron-postgres clean`";
-
-/// Returns whether a log of this path is in a database.
-fn is_in_database(path: &str) -> bool
-    ensures { result ≡ is_in_database path.now }
-{
-    path.starts_with(DATABASE)
-}
 
 /// Returns what is told if something of a node stays at the log of this path.
 fn stays(path: &str) -> &'static str
@@ -71,6 +65,13 @@ impl<'a, E: Write> Reports<'a, E> {
     /// Returns the allocator of the texts.
     pub fn alloc(&self) -> Global {
         self.alloc
+    }
+
+    /// Returns whether the log is in a database.
+    pub fn is_in_database(&self) -> bool
+        ensures { result ≡ is_in_database self.now.path.now }
+    {
+        is_in_database(self.path)
     }
 
     /// Writes the line of what is wrong with the log, or is wanted of it.

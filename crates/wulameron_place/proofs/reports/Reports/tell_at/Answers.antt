@@ -1,6 +1,6 @@
 use Rattle.std.proofs.Common.{List, ℕ, subst, ◌∙◌}
 use Rattle.negotiate_serve.specs.Outputs.{Writes}
-use Rattle.wulameron_place.specs.Troubles.{no_memory, trouble_line, written}
+use Rattle.wulameron_place.specs.Troubles.{no_memory, written}
 use Rattle.wulameron_place.proofs.reports.Reports.tell_at.Goals as goal
 
 pub returns-in-Ok : goal.returns-in-Ok
