@@ -57,6 +57,7 @@ counts (Some n) = refl
 
 alive : (s : NodeState) → has_float (alive_data s) ≡ false
 alive state.Alive = refl
+alive state.Lost = refl
 alive state.Dead = refl
 alive state.DoesNotExist = refl
 
@@ -79,6 +80,7 @@ list_free states all =
 
 stands : (s : Standing) → has_float (standing_alive s) ≡ false
 stands standing.Alive = refl
+stands standing.Lost = refl
 stands standing.Dead = refl
 stands standing.Ended = refl
 stands standing.NeverClaimed = refl

@@ -62,11 +62,13 @@ with_leaves (l ∷ rest) ms = with_leaves rest (put l.0.now (leaf_data l.1) ms)
 -- nothing is known of a node that was never claimed
 abbrev pub alive_data : NodeState → Data
 alive_data state.Alive = boolean true
+alive_data state.Lost = boolean false
 alive_data state.Dead = boolean false
 alive_data state.DoesNotExist = null
 
 abbrev pub state_data : NodeState → List ℕ
 state_data state.Alive = codes "alive"
+state_data state.Lost = codes "lost"
 state_data state.Dead = codes "dead"
 state_data state.DoesNotExist = codes "never_claimed"
 

@@ -1,5 +1,5 @@
 -- The services of a world as a table.
-use Rattle.std.specs.Prelude.{ℕ, ◌+◌, ◌-◌, ◌==◌, nat_lt, Bool, List, [], ◌∷◌, ◌++◌, filter, map, length}
+use Rattle.std.specs.Prelude.{ℕ, ◌+◌, ◌-◌, ◌==◌, nat_lt, Bool, true, false, List, [], ◌∷◌, ◌++◌, filter, map, length}
 use Rattle.std.specs.Prelude.{Option, Some, None, codes, decimal, if◌then◌else◌, max, min}
 use Rattle.std.specs.List.{flat_map}
 use Rattle.hex.specs.Hex.{encode_lower}
@@ -15,7 +15,8 @@ use Rattle.wulameron_view.specs.declared.list_text.Column.TheVariants as column
 use Rattle.wulameron_view.specs.declared.list_text.Widths.{Widths}
 use Rattle.iceoryx2_monitoring.specs.declared.state.NodeStatus.{NodeStatus}
 use Rattle.negotiate_lines.specs.Escapes.{escaped}
-use Rattle.wulameron_view.specs.States.{dead_count, dead_holders}
+use Rattle.wulameron_arguments.specs.declared.asked.Listed.{Listed}
+use Rattle.wulameron_view.specs.States.{dead_count, dead_holders, lost_count, lost_holders}
 use Rattle.wulameron_view.specs.Tables.{cut, padded, red, width_of}
 
 -- ---- the cells of a line
@@ -50,9 +51,13 @@ abbrev pub node_or_dash : Option ℕ → List ℕ
 node_or_dash None = codes "-"
 node_or_dash (Some node) = decimal node
 
--- so many of its nodes are dead
-abbrev pub dead_mark : ℕ → List ℕ
-dead_mark n = if n == 0 then [] else codes "  " ++ (decimal n ++ codes " dead")
+-- so many of its nodes are what the word says
+abbrev pub mark_of : ℕ → (word : List ℕ) → List ℕ
+mark_of n word = if n == 0 then [] else codes "  " ++ (decimal n ++ (codes " " ++ word))
+
+-- so many of its nodes are dead, and so many lost
+abbrev pub marks : (dead lost : ℕ) → List ℕ
+marks dead lost = mark_of dead (codes "dead") ++ mark_of lost (codes "lost")
 
 abbrev pub service_cells : List NodeStatus → Service → Cells
 service_cells states s = record {
@@ -61,7 +66,7 @@ service_cells states s = record {
   nodes = decimal (length s.members.items) ++ (codes "/" ++ decimal s.max_nodes);
   creator = node_or_dash s.description.creator;
   number = decimal s.number;
-  mark = dead_mark (dead_count states s.members.items);
+  mark = marks (dead_count states s.members.items) (lost_count states s.members.items);
 }
 
 -- of a service that is being created neither pattern nor name nor room is known
@@ -72,7 +77,7 @@ creation_cells states c = record {
   nodes = codes "-";
   creator = node_or_dash c.node;
   number = decimal c.number ++ codes "  being created";
-  mark = dead_mark (dead_holders states c);
+  mark = marks (dead_holders states c) (lost_holders states c);
 }
 
 abbrev pub list_cells : List NodeStatus → Services → List Cells
@@ -143,18 +148,25 @@ dead_creations states all = length (filter (λ c. nat_lt 0 (dead_holders states 
 abbrev pub with_dead : List NodeStatus → Services → ℕ
 with_dead states all = dead_published states all.published.items + dead_creations states all.creations.items
 
-abbrev pub dead_line : ℕ → List ℕ
-dead_line n =
-    if n == 0 then [] else decimal n ++ codes " with dead nodes; run `wulameron clean` to release them\n"
+-- the program by whose commands a log is used
+abbrev pub program_of : (is_in_database : Bool) → List ℕ
+program_of true = codes "wulameron-postgres"
+program_of false = codes "wulameron"
 
-abbrev pub count_lines : List NodeStatus → Services → List ℕ
-count_lines states all =
+abbrev pub dead_line : (is_in_database : Bool) → ℕ → List ℕ
+dead_line is_in_database n =
+    if n == 0 then [] else decimal n ++ (codes " with dead nodes; run `"
+    ++ (program_of is_in_database ++ codes " clean` to release them\n"))
+
+abbrev pub count_lines : (is_in_database : Bool) → List NodeStatus → Services → List ℕ
+count_lines is_in_database states all =
     decimal (length all.published.items + length all.creations.items)
-    ++ (codes " services\n" ++ dead_line (with_dead states all))
+    ++ (codes " services\n" ++ dead_line is_in_database (with_dead states all))
 
 -- The header, a line for each service, how many they are, and how many have dead nodes.
-abbrev pub list_text : (colours : Bool) → (most : Option ℕ) → List NodeStatus → Services → List ℕ
-list_text colours most states all = table_text colours most (list_cells states all) ++ count_lines states all
+abbrev pub list_text : Listed → List NodeStatus → Services → List ℕ
+list_text l states all =
+    table_text l.shown.is_coloured l.width (list_cells states all) ++ count_lines l.is_in_database states all
 
 -- ---- what names each service that is published
 

@@ -35,14 +35,14 @@ is_wanted (wanted.Numbered n) s = nat_eq s.number n
 -- ---- the texts
 
 -- a table, names, or JSON
-abbrev pub list_in : Form → (colours : Bool) → (most : Option ℕ) → List NodeStatus → Services → List ℕ
-list_in form.Text colours most states all = list_text colours most states all
-list_in form.Names colours most states all = names_text all
-list_in form.Json colours most states all = json_line (list_data states all)
-list_in form.JsonLines colours most states all = list_lines states all
+abbrev pub list_in : Form → Listed → List NodeStatus → Services → List ℕ
+list_in form.Text l states all = list_text l states all
+list_in form.Names l states all = names_text all
+list_in form.Json l states all = json_line (list_data states all)
+list_in form.JsonLines l states all = list_lines states all
 
 abbrev pub list_printed : Listed → List NodeStatus → Services → List ℕ
-list_printed l states all = list_in l.shown.form l.shown.is_coloured l.width states all
+list_printed l states all = list_in l.shown.form l states all
 
 -- lines, or JSON
 abbrev pub show_in : Form → (colours : Bool) → List NodeStatus → Service → List ℕ

@@ -19,12 +19,14 @@ use Rattle.wulameron_view.specs.declared.states.Standing.TheVariants as standing
 -- nothing is known of a node that was never claimed
 abbrev pub standing_alive : Standing → Data
 standing_alive standing.Alive = boolean true
+standing_alive standing.Lost = boolean false
 standing_alive standing.Dead = boolean false
 standing_alive standing.Ended = boolean false
 standing_alive standing.NeverClaimed = null
 
 abbrev pub standing_data : Standing → List ℕ
 standing_data standing.Alive = codes "alive"
+standing_data standing.Lost = codes "lost"
 standing_data standing.Dead = codes "dead"
 standing_data standing.Ended = codes "ended"
 standing_data standing.NeverClaimed = codes "never_claimed"

@@ -27,12 +27,17 @@ state_of states node = state_or_none (option_map (λ status. status.state) (find
 
 abbrev pub state_word : NodeState → List ℕ
 state_word state.Alive = codes "alive"
+state_word state.Lost = codes "lost"
 state_word state.Dead = codes "dead"
 state_word state.DoesNotExist = codes "never claimed"
 
 abbrev pub is_gone : NodeState → Bool
 is_gone state.Dead = true
 is_gone _ = false
+
+abbrev pub is_lost : NodeState → Bool
+is_lost state.Lost = true
+is_lost _ = false
 
 -- its process is gone
 abbrev pub is_dead : List NodeStatus → ℕ → Bool
@@ -50,13 +55,26 @@ dead_among states (Some node) = if is_dead states node then 1 else 0
 abbrev pub dead_holders : List NodeStatus → Creation → ℕ
 dead_holders states c = dead_among states c.node
 
+-- how many of these are lost
+abbrev pub lost_count : List NodeStatus → List Member → ℕ
+lost_count states members = length (filter (λ m. is_lost (state_of states m.node)) members)
+
+-- how many of those are lost that hold the lock: one at most
+abbrev pub lost_among : List NodeStatus → Option ℕ → ℕ
+lost_among states None = 0
+lost_among states (Some node) = if is_lost (state_of states node) then 1 else 0
+
+abbrev pub lost_holders : List NodeStatus → Creation → ℕ
+lost_holders states c = lost_among states c.node
+
 -- ---- a node at a log
 
--- A dead node left something that it had, and an ended one nothing.
+-- A dead node left something that it had, and an ended one nothing. A lost one may have something still.
 abbrev pub StandsAs : World → ℕ → NodeState → Standing → Type 0
 StandsAs w i state.Dead standing.Dead = (held : Holding) × IsHolding w i (Some held)
 StandsAs w i state.Dead standing.Ended = IsHolding w i None
 StandsAs w i state.Alive found = found ≡ standing.Alive
+StandsAs w i state.Lost found = found ≡ standing.Lost
 StandsAs w i state.DoesNotExist found = found ≡ standing.NeverClaimed
 StandsAs w i state.Dead _ = ⊥
 
@@ -71,6 +89,7 @@ pub data AreStandings (w : World) : List NodeStatus → List NodeStanding → Ty
 
 abbrev pub standing_word : Standing → List ℕ
 standing_word standing.Alive = codes "alive"
+standing_word standing.Lost = codes "lost"
 standing_word standing.Dead = codes "dead"
 standing_word standing.Ended = codes "ended"
 standing_word standing.NeverClaimed = codes "never claimed"

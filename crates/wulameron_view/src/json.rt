@@ -151,7 +151,7 @@ fn alive_or_null<'a>(state: NodeState) -> Leaf<'a>
 {
     match state {
         NodeState::Alive => Leaf::Truth(true),
-        NodeState::Dead => Leaf::Truth(false),
+        NodeState::Lost | NodeState::Dead => Leaf::Truth(false),
         NodeState::DoesNotExist => Leaf::Null,
     }
 }
@@ -162,6 +162,7 @@ fn word_of_state(state: NodeState) -> &'static str
 {
     match state {
         NodeState::Alive => "alive",
+        NodeState::Lost => "lost",
         NodeState::Dead => "dead",
         NodeState::DoesNotExist => "never_claimed",
     }

@@ -3,21 +3,22 @@
 ghost use Rattle.std.specs.Prelude.{◌≡◌, ◌≤◌, ◌++◌, IfOk, OnOk, codes, decimal, length, map, string_bytes};
 ghost use Rattle.std.specs.List.{flat_map};
 ghost use Rattle.wulameron_view.specs.ListTexts.{cell_of, cell_text, count_lines, creation_cells, dead_line};
-ghost use Rattle.wulameron_view.specs.ListTexts.{dead_mark, fitted as fitted_of, header, line_text, list_cells};
+ghost use Rattle.wulameron_view.specs.ListTexts.{fitted as fitted_of, header, line_text, list_cells, mark_of, marks};
 ghost use Rattle.wulameron_view.specs.ListTexts.{list_text as list_text_of, name_text, names_text, node_or_dash};
-ghost use Rattle.wulameron_view.specs.ListTexts.{dead_creations, dead_published, padded_cells, pattern_term};
+ghost use Rattle.wulameron_view.specs.ListTexts.{dead_creations, dead_published, padded_cells, pattern_term, program_of};
 ghost use Rattle.wulameron_view.specs.ListTexts.{rest_of_line, room_for, service_cells, service_name, table_text};
 ghost use Rattle.wulameron_view.specs.ListTexts.{widths_of as widths_of_spec, with_dead};
 ghost use Rattle.wulameron_view.specs.Tables.{width_of};
 
 use crate::services::{Creation, Service, Services};
-use crate::states::{dead_count, dead_holders};
+use crate::states::{dead_count, dead_holders, lost_count, lost_holders};
 use crate::table::{columns, cut, write_padded, write_red};
 use iceoryx2_description::description::MessagingPattern;
 use iceoryx2_monitoring::state::NodeStatus;
 use negotiate_lines::escape::{escape, escaped_text};
 use std::alloc::{AllocError, Global};
 use std::marker::Model;
+use wulameron_arguments::asked::Listed;
 
 /// How many columns of a name are never cut.
 const LEAST: usize = 8;
@@ -33,7 +34,7 @@ struct Line {
     nodes: String,
     creator: String,
     number: String,
-    /// How many of its nodes are dead, if any are.
+    /// How many of its nodes are dead, and how many are lost, if any are.
     mark: String,
 }
 
@@ -115,13 +116,14 @@ impl Line {
         let term = term_of(service.description.messaging_pattern());
         let nodes = service.members.len();
         let dead = dead_count(states, &service.members);
+        let lost = lost_count(states, &service.members);
         Ok(Line {
             pattern: String::from_str(alloc, term)?,
             name: escaped_text(alloc, service.description.name().as_str())?,
             nodes: ratio(alloc, nodes, service.max_nodes)?,
             creator: node_text(alloc, service.description.creator())?,
             number: number_text(alloc, service.number, "")?,
-            mark: mark(alloc, dead)?,
+            mark: mark(alloc, dead, lost)?,
         })
     }
 
@@ -134,49 +136,51 @@ impl Line {
         ensures { IfOk result (λ line. line ≡ creation_cells states.now creation.now) }
     {
         let dead = dead_holders(states, creation);
+        let lost = lost_holders(states, creation);
         Ok(Line {
             pattern: String::from_str(alloc, "-")?,
             name: creation.hash.to_text(alloc)?,
             nodes: String::from_str(alloc, "-")?,
             creator: node_text(alloc, creation.node)?,
             number: number_text(alloc, creation.number, "  being created")?,
-            mark: mark(alloc, dead)?,
+            mark: mark(alloc, dead, lost)?,
         })
     }
 }
 
 /// Writes the services as a table: a header, a line for each service, those that are being created last, and how many
 /// there are. If nodes of some are dead, it also writes how many services have dead nodes, and the command that
-/// releases what such nodes have. Columns are two spaces apart, and as wide as their widest cell in columns of a
+/// releases what such nodes have: that of a database's log has another name. Columns are two spaces apart, and as wide as their widest cell in columns of a
 /// terminal. If a width is asked for, names are cut so that a line has at most this many columns, but to no fewer than
 /// eight. If colours are asked for, what has dead nodes is red. `AllocError` if there is no memory; a prefix may then
 /// be written.
 pub fn list_text(
-    is_coloured: bool,
-    most: Option<u64>,
+    listed: Listed<'_>,
     states: &[NodeStatus],
     services: &Services,
     text: &mut String,
 ) -> Result<(), AllocError>
     ensures { OnOk result (string_bytes text.new
-        ≡ string_bytes text.old ++ list_text_of is_coloured most states.now services.now) }
+        ≡ string_bytes text.old ++ list_text_of listed.entry states.now services.now) }
 {
     let lines = lines_of(*text.allocator(), states, services)?;
-    write_lines(is_coloured, most, &lines, text)?;
-    write_counts(states, services, text)
+    write_lines(listed.shown.is_coloured, listed.width, &lines, text)?;
+    write_counts(listed.is_in_database, states, services, text)
 }
 
 /// Writes how many services there are, and how many have dead nodes.
 fn write_counts(
+    is_in_database: bool,
     states: &[NodeStatus],
     services: &Services,
     text: &mut String,
 ) -> Result<(), AllocError>
-    ensures { OnOk result (string_bytes text.new ≡ string_bytes text.old ++ count_lines states.now services.now) }
+    ensures { OnOk result (string_bytes text.new ≡ string_bytes text.old
+        ++ count_lines is_in_database states.now services.now) }
 {
     let count = services.published.len() + services.creations.len();
     writeln!(text, "{count} services")?;
-    write_dead(dead_services(states, services), text)
+    write_dead(is_in_database, dead_services(states, services), text)
 }
 
 /// Returns how many services have dead nodes.
@@ -208,16 +212,27 @@ fn dead_creations(states: &[NodeStatus], creations: &[Creation]) -> usize
         .count()
 }
 
+/// Returns the name of the program by whose commands a log is used.
+fn program_of(is_in_database: bool) -> &'static str
+    ensures { result.now ≡ program_of is_in_database }
+{
+    match is_in_database {
+        true => "wulameron-postgres",
+        false => "wulameron",
+    }
+}
+
 /// Writes that this many services have dead nodes, if there are any.
-fn write_dead(count: usize, text: &mut String) -> Result<(), AllocError>
-    ensures { OnOk result (string_bytes text.new ≡ string_bytes text.old ++ dead_line count) }
+fn write_dead(is_in_database: bool, count: usize, text: &mut String) -> Result<(), AllocError>
+    ensures { OnOk result (string_bytes text.new ≡ string_bytes text.old ++ dead_line is_in_database count) }
 {
     if count == 0 {
         return Ok(());
     }
+    let program = program_of(is_in_database);
     writeln!(
         text,
-        "{count} with dead nodes; run `wulameron clean` to release them"
+        "{count} with dead nodes; run `{program} clean` to release them"
     )
 }
 
@@ -444,12 +459,22 @@ fn number_text(alloc: Global, number: u64, after: &str) -> Result<String, AllocE
     Ok(text)
 }
 
-/// Returns the mark that this many nodes are dead, if any are.
-fn mark(alloc: Global, dead: usize) -> Result<String, AllocError>
-    ensures { IfOk result (λ text. string_bytes text ≡ dead_mark dead) }
+/// Returns the marks that this many nodes are dead and this many lost, if any are.
+fn mark(alloc: Global, dead: usize, lost: usize) -> Result<String, AllocError>
+    ensures { IfOk result (λ text. string_bytes text ≡ marks dead lost) }
 {
-    if dead == 0 {
-        return Ok(String::new(alloc));
+    let mut text = String::new(alloc);
+    write_mark(dead, "dead", &mut text)?;
+    write_mark(lost, "lost", &mut text)?;
+    Ok(text)
+}
+
+/// Writes the mark that this many nodes are what the word says, if any are.
+fn write_mark(count: usize, word: &str, text: &mut String) -> Result<(), AllocError>
+    ensures { OnOk result (string_bytes text.new ≡ string_bytes text.old ++ mark_of count word.now) }
+{
+    if count == 0 {
+        return Ok(());
     }
-    format!(in alloc; "  {dead} dead")
+    write!(text, "  {count} {word}")
 }

@@ -166,15 +166,7 @@ fn list_all(
 {
     let mut text = String::new(alloc);
     match listed.shown.form {
-        Form::Text => {
-            list_text(
-                listed.shown.is_coloured,
-                listed.width,
-                states,
-                services,
-                &mut text,
-            )?
-        }
+        Form::Text => list_text(listed, states, services, &mut text)?,
         Form::Names => list_names(services, &mut text)?,
         Form::Json => list_json(states, services, &mut text)?,
         Form::JsonLines => list_json_lines(states, services, &mut text)?,
@@ -328,7 +320,7 @@ pub fn print_show<L: Refusing, W: Write>(
     )
 }
 
-/// Takes over what others have appended, and then prints each of these nodes, and whether it is alive, dead or ended.
+/// Takes over what others have appended, and then prints each of these nodes, and whether it is alive, lost, dead or ended.
 ///
 /// `Unread` if not all can be taken over: nothing is printed. `Failed` if the output refuses, or there is no memory.
 pub fn print_nodes<L: Refusing, W: Write>(

@@ -71,7 +71,7 @@ fn alive_or_null<'a>(standing: Standing) -> Leaf<'a>
 {
     match standing {
         Standing::Alive => Leaf::Truth(true),
-        Standing::Dead | Standing::Ended => Leaf::Truth(false),
+        Standing::Lost | Standing::Dead | Standing::Ended => Leaf::Truth(false),
         Standing::NeverClaimed => Leaf::Null,
     }
 }
@@ -82,6 +82,7 @@ pub fn key_word(standing: Standing) -> &'static str
 {
     match standing {
         Standing::Alive => "alive",
+        Standing::Lost => "lost",
         Standing::Dead => "dead",
         Standing::Ended => "ended",
         Standing::NeverClaimed => "never_claimed",

@@ -4,7 +4,8 @@ ghost use Rattle.std.specs.Prelude.{◌≡◌, ◌==◌, IfOk};
 ghost use Rattle.std.specs.List.{find};
 ghost use Rattle.std.specs.Option.{option_map};
 ghost use Rattle.wulameron_view.specs.States.{AreStandings, IsStandingIn, dead_count, dead_holders, is_dead};
-ghost use Rattle.wulameron_view.specs.States.{is_gone, standing_word, state_of as state_among, state_word};
+ghost use Rattle.wulameron_view.specs.States.{is_gone, is_lost, lost_count, lost_holders, standing_word};
+ghost use Rattle.wulameron_view.specs.States.{state_of as state_among, state_word};
 
 use crate::services::{Creation, Member};
 use iceoryx2_monitoring::state::{NodeState, NodeStatus};
@@ -16,6 +17,8 @@ use std::alloc::{AllocError, Global};
 pub enum Standing {
     /// A process has claimed it.
     Alive,
+    /// Its process may not know yet that its session with a database has ended.
+    Lost,
     /// Its process is gone, and something that it had is left.
     Dead,
     /// Its process is gone, and nothing is left.
@@ -53,6 +56,7 @@ fn standing_in(world: &StoredWorld, status: &NodeStatus) -> NodeStanding
     let node = status.node;
     let standing = match status.state {
         NodeState::Alive => Standing::Alive,
+        NodeState::Lost => Standing::Lost,
         NodeState::DoesNotExist => Standing::NeverClaimed,
         NodeState::Dead => match world.holding(node) {
             Some(_) => Standing::Dead,
@@ -68,6 +72,7 @@ pub(crate) fn word_of_standing(standing: Standing) -> &'static str
 {
     match standing {
         Standing::Alive => "alive",
+        Standing::Lost => "lost",
         Standing::Dead => "dead",
         Standing::Ended => "ended",
         Standing::NeverClaimed => "never claimed",
@@ -100,6 +105,7 @@ pub(crate) fn word_of(state: NodeState) -> &'static str
 {
     match state {
         NodeState::Alive => "alive",
+        NodeState::Lost => "lost",
         NodeState::Dead => "dead",
         NodeState::DoesNotExist => "never claimed",
     }
@@ -111,6 +117,16 @@ pub(crate) fn is_gone(state: NodeState) -> bool
 {
     match state {
         NodeState::Dead => true,
+        _ => false,
+    }
+}
+
+/// Returns whether a node of this state is lost.
+fn is_lost(state: NodeState) -> bool
+    ensures { result ≡ is_lost state }
+{
+    match state {
+        NodeState::Lost => true,
         _ => false,
     }
 }
@@ -130,6 +146,32 @@ pub(crate) fn dead_count(states: &[NodeStatus], members: &[Member]) -> usize
         .iter()
         .filter(|member| is_dead(states, member.node))
         .count()
+}
+
+/// Returns how many of these nodes are lost.
+pub(crate) fn lost_count(states: &[NodeStatus], members: &[Member]) -> usize
+    ensures { result ≡ lost_count states.now members.now }
+{
+    members
+        .iter()
+        .filter(|member| is_lost(state_of(states, member.node)))
+        .count()
+}
+
+/// Returns 1 if the holder of the lock is lost, and 0 otherwise.
+pub(crate) fn lost_holders(states: &[NodeStatus], creation: &Creation) -> usize
+    ensures { result ≡ lost_holders states.now creation.now }
+{
+    match creation.node {
+        None => 0,
+        Some(node) => {
+            if is_lost(state_of(states, node)) {
+                1
+            } else {
+                0
+            }
+        }
+    }
 }
 
 /// Returns 1 if the holder of the lock is dead, and 0 otherwise.

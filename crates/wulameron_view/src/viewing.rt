@@ -4,7 +4,7 @@ ghost use Rattle.std.specs.Prelude.{◌≡◌, ℕ, List, Some};
 ghost use Rattle.wulameron_place.specs.Troubles.{WritesLine, trouble_line};
 ghost use Rattle.wulameron_view.specs.Looking.{IsListed, IsShown, IsUnshown, NeverUnshown, look_status};
 ghost use Rattle.wulameron_view.specs.Nodes.{AreNodes};
-ghost use Rattle.wulameron_view.specs.Viewing.{EndsLook, look_text};
+ghost use Rattle.wulameron_view.specs.Viewing.{EndsLook, look_text, no_service_by};
 
 use crate::looking::{LookError, print_list, print_nodes, print_show, status_of_look};
 use iceoryx2_journal::journal::Journal;
@@ -20,7 +20,10 @@ use wulameron_place::opening::{OpenLog, opened_view, states};
 use wulameron_place::reports::Reports;
 use wulameron_place::trouble::{Refusing, Trouble, Troubled};
 
+/// What is told if a log in a file, or in a database, has no wanted service.
 const NO_SERVICE: &str = "has no such service; see `wulameron list`";
+
+const NO_SERVICE_IN_DATABASE: &str = "has no such service; see `wulameron-postgres list`";
 
 const SEVERAL_SERVICES: &str = "has several services of this name; name one by --pattern";
 
@@ -157,6 +160,16 @@ fn end_look<E: Write>(
     status_of_look(looked)
 }
 
+/// Returns what is told if no service is the wanted one.
+fn no_service(is_in_database: bool) -> &'static str
+    ensures { result.now ≡ no_service_by is_in_database }
+{
+    match is_in_database {
+        true => NO_SERVICE_IN_DATABASE,
+        false => NO_SERVICE,
+    }
+}
+
 /// Writes why a look at a log ended. If the log isn't read and nothing went wrong at it, there was no memory.
 ///
 /// `ServeError` as `write_out` does, and if there is no memory for the line.
@@ -165,7 +178,7 @@ pub fn report_look<E: Write>(
     why: LookError,
     reports: &mut Reports<'_, E>,
 ) -> Result<(), ServeError>
-    ensures { (text : List ℕ) → look_text trouble why ≡ Some text
+    ensures { (text : List ℕ) → look_text reports.old.path.now trouble why ≡ Some text
         → WritesLine (trouble_line reports.old.path.now text) result
         (E.contents reports.old.errors) (E.contents reports.new.errors) }
 {
@@ -174,7 +187,7 @@ pub fn report_look<E: Write>(
             Some(trouble) => reports.tell(trouble),
             None => reports.tell_failure(ServeError::OutOfMemory),
         },
-        LookError::NoService => reports.tell(NO_SERVICE),
+        LookError::NoService => reports.tell(no_service(reports.is_in_database())),
         LookError::SeveralServices => reports.tell(SEVERAL_SERVICES),
         LookError::Failed(fault) => reports.tell_failure(fault),
     }
