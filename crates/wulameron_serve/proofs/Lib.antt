@@ -9,3 +9,4 @@ pub mod EscapedWords
 pub mod Factories
 pub mod LineEnds
 pub mod Told
+pub mod Wakes

@@ -136,6 +136,6 @@ pub data RehearsesAsked (named : Option ℕ) (text : List ℕ) : Type 0 where
   given : (nodes : List ℕ) (w v : World) (g : Given) → AreWanted named nodes → RehearsesSum nodes w g v
       → text ≡ given_line g → RehearsesAsked named text
   not_rehearsed : (why : Unfound) → IsUnfoundReply why text → RehearsesAsked named text
-  not_whole : text ≡ refused_line (codes "the log can't be read to its end; run `wulameron check`")
+  not_whole : text ≡ refused_line (codes "the log can't be read to its end; run `check`")
       → RehearsesAsked named text
   stays : text ≡ refused_line stays_why → RehearsesAsked named text

@@ -51,8 +51,8 @@ fn refuse_node(node: u64, text: &mut String) -> Result<(), AllocError>
 
 /// What a command came to.
 #[derive(Drop)]
-struct Carried {
-    reply: Reply,
+pub(crate) struct Carried {
+    pub(crate) reply: Reply,
     /// The slot that the command names.
     slot: usize,
     /// How many accesses the command made, if they are counted.
@@ -163,6 +163,13 @@ impl<S: Viewed + Resuming + Troubled, D: DeadNodes + Drop> NodeAnswerer<S, D> {
         }
     }
 
+    /// Returns whether others released what the node had while the log's session was over.
+    pub(crate) fn is_gone(&self) -> bool
+        ensures { result ≡ self.now.is_gone }
+    {
+        self.is_gone
+    }
+
     /// Goes on in another session if the log's session has ended: it takes over what was appended meanwhile, and
     /// releases what the node has besides the factories of the slots. If these factories are gone, it empties the slots
     /// first. If no other session can be had, nothing changes.
@@ -202,7 +209,7 @@ impl<S: Viewed + Resuming + Troubled, D: DeadNodes + Drop> NodeAnswerer<S, D> {
     }
 
     /// Carries a command out, and counts the accesses that it makes.
-    fn carry_out(&mut self, command: Command) -> Carried
+    pub(crate) fn carry_out(&mut self, command: Command) -> Carried
         ensures node { self.new.node ≡ self.old.node }
         ensures slot { result.slot ≡ slot_named command }
         ensures held { (is : AppliesHeld S.spans S.step S.world (own_state self.old.session) command result.reply

@@ -28,7 +28,7 @@ use wulameron_place::trouble::{Trouble, Troubled};
 const FILE_REFUSED: &str = "a dead node's file can't be locked; see the rights of the log's folder";
 
 /// What is told if the world of a rehearsal can't be had.
-const NOT_WHOLE: &str = "the log can't be read to its end; run `wulameron check`";
+const NOT_WHOLE: &str = "the log can't be read to its end; run `check`";
 
 // ---- what was released
 

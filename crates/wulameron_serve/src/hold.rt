@@ -5,10 +5,12 @@ ghost use Rattle.wulameron_serve.specs.Holding.{end_status};
 
 use crate::answerer::{NodeAnswerer, call_of};
 use crate::dead::clean_dead;
-use crate::holding::{HoldError, call_line, hold_call, status_of_hold};
+use crate::holding::{
+    HoldError, Holding, NO_LONGER_HELD, call_line, hold_call, status_of_hold, tell_service,
+};
 use crate::log_task::{LogTask, with_log};
 use crate::refused::{Offer, offer_to, tell_refusal};
-use crate::view::Viewed;
+use crate::view::{StoresWorld, Viewed};
 use iceoryx2_builder::command::Call;
 use iceoryx2_description::config::Config;
 use iceoryx2_journal::journal::Journal;
@@ -316,14 +318,13 @@ fn hold_over<
     output: &mut W,
     reports: &mut Reports<'_, E>,
 ) -> u8 {
-    let alloc = reports.alloc();
-    let node = wanted.node;
+    let hold = wanted.hold;
     let mut input = input;
     let mut session = Session::over(Config::default(), journal);
-    let _ = clean_dead(alloc, &mut session, &dead);
-    let ended = hold_wanted(alloc, &mut session, wanted, &mut input, output);
-    let answerer = NodeAnswerer::over(node, session, dead);
-    close_held(answerer, node, ended, reports)
+    let _ = clean_dead(reports.alloc(), &mut session, &dead);
+    let mut answerer = NodeAnswerer::over(wanted.node, session, dead);
+    let ended = hold_wanted(&mut answerer, wanted, &mut input, output, reports);
+    close_held(answerer, hold, ended, reports)
 }
 
 /// How a hold ended, and what a refused call found.
@@ -333,12 +334,18 @@ struct Ended {
 }
 
 /// Makes the call, and holds the factory until the input ends.
-fn hold_wanted<L: SpansCalls, R: Read, W: Write>(
-    alloc: Global,
-    session: &mut Session<Journal<L>>,
+fn hold_wanted<
+    S: Viewed + StoresWorld + Resuming + Troubled,
+    D: DeadNodes + Drop,
+    R: Read,
+    W: Write,
+    E: Write,
+>(
+    answerer: &mut NodeAnswerer<S, D>,
     wanted: NodeCall<'_, '_>,
     input: &mut R,
     output: &mut W,
+    reports: &mut Reports<'_, E>,
 ) -> Ended {
     let NodeCall {
         node,
@@ -346,8 +353,12 @@ fn hold_wanted<L: SpansCalls, R: Read, W: Write>(
         call,
         states,
     } = wanted;
-    let held = hold_call(alloc, session, call, &states, input, output);
-    let offer = offer_if_refused(alloc, held, node, hold, session.storage());
+    let holding = Holding {
+        hold,
+        states: &states,
+    };
+    let held = hold_call(answerer, call, holding, input, output, reports);
+    let offer = offer_if_refused(reports.alloc(), held, node, hold, answerer.storage());
     Ended { held, offer }
 }
 
@@ -370,22 +381,31 @@ fn offer_if_refused<S: WorldStorage>(
     }
 }
 
+/// Returns whether the hold ended because it lost the log's session.
+fn is_lost(held: Result<(), HoldError>) -> bool {
+    match held {
+        Err(HoldError::Lost) => true,
+        _ => false,
+    }
+}
+
 /// Closes what is still held, releases what else the node has, and returns the status. If the database's session has
-/// ended, it does so in another one.
+/// ended, it does so in another one, unless none could be had while the hold waited.
 fn close_held<S: Viewed + Resuming + Troubled + Drop, D: DeadNodes + Drop, E: Write>(
     answerer: NodeAnswerer<S, D>,
-    node: u64,
+    hold: &Hold<'_>,
     ended: Ended,
     reports: &mut Reports<'_, E>,
 ) -> u8 {
     let mut answerer = answerer;
-    answerer.go_on();
+    let node = answerer.node();
+    answerer.go_on_unless(is_lost(ended.held));
     let _ = reports.look(&answerer);
     let is_gone = answerer.trouble() == Some(Trouble::Gone);
     let mut storage = answerer.finish();
     let is_settled = storage.settle(node, &[]).is_ok();
     let _ = reports.look(&storage);
-    let status = end_hold(storage.trouble(), ended, is_settled, reports);
+    let status = end_hold(storage.trouble(), hold, ended, is_settled, reports);
     if is_gone {
         return FAULT;
     }
@@ -396,6 +416,7 @@ fn close_held<S: Viewed + Resuming + Troubled + Drop, D: DeadNodes + Drop, E: Wr
 /// log can't be used any more, of which the writer of errors has a line.
 fn end_hold<E: Write>(
     trouble: Option<Trouble>,
+    hold: &Hold<'_>,
     ended: Ended,
     is_settled: bool,
     reports: &mut Reports<'_, E>,
@@ -404,7 +425,7 @@ fn end_hold<E: Write>(
 {
     let Ended { held, offer } = ended;
     if let Err(why) = held {
-        let _ = report_hold(trouble, why, &offer, reports);
+        let _ = report_hold(trouble, hold, why, &offer, reports);
     }
     if !is_settled {
         if last_trouble(trouble).is_none() {
@@ -421,6 +442,7 @@ fn end_hold<E: Write>(
 /// Writes why a hold ended. If a factory that wasn't closed stays, the end tells it.
 fn report_hold<E: Write>(
     trouble: Option<Trouble>,
+    hold: &Hold<'_>,
     why: HoldError,
     offer: &Option<Offer>,
     reports: &mut Reports<'_, E>,
@@ -430,6 +452,7 @@ fn report_hold<E: Write>(
         HoldError::NotMade => reports.tell(NOT_MADE),
         HoldError::Unshown(why) => report_look(trouble, why, reports),
         HoldError::Reading(fault) => reports.tell_failure(fault),
+        HoldError::Lost => tell_service(hold, NO_LONGER_HELD, reports),
         HoldError::NotClosed => Ok(()),
     }
 }

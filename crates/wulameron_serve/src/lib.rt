@@ -29,10 +29,11 @@
 //!
 //! The command that makes one call, and holds its factory until an input ends, is here too.
 //!
-//! `holding::hold_call`, over a session of a journal: the call is made by its own grammar. If it returns a factory,
-//! exactly what `show` prints of it is written, or a prefix of that, and the slot is closed afterwards, whatever came.
-//! If the call is refused, nothing is written (`Holds`, `HoldsMade`). Its status is exact (`hold_status`,
-//! `end_status`). That it waits until the input ends is tested.
+//! `holding::hold_call`, over any storage that shows a world: the call is made by its own grammar. If it returns a
+//! factory, exactly what `show` prints of it is written, or a prefix of that, and the slot is closed afterwards, whatever
+//! came. If the call is refused, nothing is written (`Holds`, `HoldsMade`). While it waits, it may go on in another
+//! session of a database. The slots then hold what they held, or it ends and tells so (`Waits`). Its status is exact
+//! (`hold_status`, `end_status`). That it waits until the input ends, and goes on when it is woken, is tested.
 //!
 //! `refused::tell_refusal` writes exactly the line of a refusal, and after it what the call required beside what the
 //! service offers (`refusal_line`, `offered_lines`). `offer_to` returns the service of the call's name and pattern that

@@ -9,7 +9,7 @@ use iceoryx2_errors::error::EventOpenOrCreateError;
 use iceoryx2_errors::refusal::{Reason, Refusal};
 
 const REQUIRE_LESS: &str = "\
-    require less by `attribute=..` and `require_key=..`; `wulameron show NAME` prints the \
+    require less by `attribute=..` and `require_key=..`; `show NAME` prints the \
     service's attributes";
 
 const DEFINE_KEYS: &str = "\

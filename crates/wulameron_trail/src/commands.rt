@@ -345,7 +345,7 @@ impl fmt::Display for NotAnswered {
         let NotAnswered { unit, at } = *self;
         write!(
             f,
-            "the entry at {unit} {at} doesn't follow from the entries before it; run `wulameron check`"
+            "the entry at {unit} {at} doesn't follow from the entries before it; run `check`"
         )
     }
 }

@@ -1,0 +1,7 @@
+use Rattle.std.proofs.Common.{Ok}
+use Rattle.iceoryx2_session.specs.SessionStates.{own_state}
+use Rattle.wulameron_serve.proofs.Wakes.{still}
+use Rattle.wulameron_serve.proofs.holding.wait.Goals as goal
+
+pub returns-in-Err : goal.returns-in-Err
+returns-in-Err g c = still g.S.WorldStorage.settles g.S.WorldStorage.shows (own_state c.args.answerer.now.session) (Ok tt)
