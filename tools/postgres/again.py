@@ -1,7 +1,7 @@
 """Sessions that end while their processes go on: the launcher connects again, and a process has its node and its open
 factories as before. A call within which its session ended is refused, and leaves nothing. A process whose node was
-cleaned up for meanwhile says so and ends. One that waits for its input is ended by the launcher. The other parts say what
-happens without another session, by WULAMERON_RECONNECT=0."""
+cleaned up for meanwhile says so and ends. A `run` that waits for its input is ended by the launcher; the part `holders` has
+holds. The other parts say what happens without another session, by WULAMERON_RECONNECT=0."""
 import json
 import os
 import pathlib
@@ -188,27 +188,24 @@ def not_again(own):
 
 
 def held(own):
-    """A hold whose session ended while it waited gives its factory back in another one."""
+    """A hold whose input ends right behind its session gives its factory back in another one."""
     words = own.site.words("hold", "again-hold", "--node", "1", "event", "create", "held")
     process = Living(own.checks, words, own.site.environment(**own.environment, PGAPPNAME="again-hold"))
     own.checks.same(process.hear(), "name: held", "a hold")
+    time.sleep(WATCHED)
     own.terminate(process)
     own.ends(process, [AGAIN], "a hold whose session ended")
     own.cleaned("again-hold", "a hold whose session ended")
 
 
 def lost(own):
-    """A process that waits for its input is ended when its session has, also where it is stopped, with one line, which
+    """A `run` that waits for its input is ended when its session has, also where it is stopped, with one line, which
     `run --escaped` has on its output too. Its launcher's end is its own."""
-    commands = {"run": ["run"], "stopped": ["run"], "watched-again": ["run"]}
-    if not own.site.is_plain:
-        commands |= {"escaped": ["run", "--escaped"], "held": ["hold", "event", "create", "held"]}
-    for what, (command, *words) in commands.items():
+    for what in ("run", "stopped", "watched-again", *([] if own.site.is_plain else ["escaped"])):
         name = f"again-lost-{what}"
-        words = own.site.words(command, name, "--node", "1", *words)
+        words = own.site.words("run", name, "--node", "1", *(["--escaped"] if what == "escaped" else []))
         process = own.site.living_of(words, name, 1, own.site.environment(**own.environment))
-        if command == "run":
-            process.say("event create 1 0 own-1")
+        process.say("event create 1 0 own-1")
         process.hear()
         time.sleep(WATCHED)
         if what == "stopped":
@@ -220,7 +217,8 @@ def lost(own):
         began = time.monotonic()
         ran = process.ended()
         took = time.monotonic() - began
-        own.checks.need((ran.status, ran.err) == (FAULT, LOST.format(name)), f"{what}: an idle process whose session ended: {ran}")
+        fine = (ran.status, ran.err) == (FAULT, LOST.format(name))
+        own.checks.need(fine, f"{what}: an idle process whose session ended: {ran}")
         own.checks.same([line for line in ran.out if line == "lost"], ["lost"] * (what == "escaped"), f"{what}: a last line")
         own.checks.need(took < SOON, f"{what}: an idle process was ended {took:.1f} seconds after its session")
         own.cleaned(name, what)

@@ -1,17 +1,24 @@
 """The commands that look at a log, hold a call and clean up, beside each other, with a process killed in between: what
-they print is what a reader in Python finds in the table."""
+they print is what a reader in Python finds in the table. A node that is lost is shown so, and as dead afterwards."""
 import json
+import os
 import signal
+import time
 
 from logs.commands import NAME, REFUSED, VERBS, Command, check_change
 from postgres.checks import until
 from postgres.server import LAUNCHER, PAUSE
-from postgres.site import waiting
+from postgres.site import LOST_FOR, waiting
 from postgres.table import read_rows, replay
 
-LOG = "commands"
-# What a list tells behind its table where one service has dead nodes.
-DEAD_NODES = "1 with dead nodes; run `wulameron clean` to release them"
+LOG, LOG_OF_LOST = "commands", "commands-lost"
+# What a list tells behind its table where one service has dead nodes, and how a show of no service ends.
+DEAD_NODES = "1 with dead nodes; run `wulameron-postgres clean` to release them"
+NO_SERVICE = "has no such service; see `wulameron-postgres list`\n"
+# By how many seconds a node is told as dead later than it is, also on a slow machine.
+MARGIN = 3
+# What has nodes found lost anew.
+UNFOUND = "update wulameron.nodes set lost_since = null where log = (select log from wulameron.logs where name = '{}')"
 # Whether who watches has had the answer to its first reading.
 HAS_READ = """select pid from pg_stat_activity where application_name = 'watch' and state = 'idle'
     and query like '%from wulameron.entries%'"""
@@ -121,6 +128,52 @@ def check_damaged(shown):
     need(read_rows(server, LOG) == before, "a log that was changed is written to")
 
 
+def looks(word):
+    """What shows node 1, which has a service and is lost or dead: the last lines of each command."""
+    is_dead = word == "dead"
+    node = {"alive": False, "node": 1, "state": word}
+    return {
+        ("nodes",): [f"node 1 {word}"],
+        ("nodes", "--json"): [node],
+        ("list",): ["1 services"] + [DEAD_NODES] * is_dead,
+        ("list", "--json"): [node | {"factories": 1}],
+        ("show", NAME): [f"node 1: 1 factories, {word}", "* differs from the default of a create"],
+    }
+
+
+def check_looks(site, word):
+    """Each command that looks at the log of the node that is lost or dead shows it so."""
+    for words, wanted in looks(word).items():
+        if word == "lost":
+            site.server.told(UNFOUND.format(LOG_OF_LOST))
+        ran = site.ran(words[0], LOG_OF_LOST, *words[1:], PGOPTIONS="")
+        found = ran.out[-len(wanted) :]
+        if "--json" in words:
+            found = json.loads("".join(ran.out) or "null")
+            found = found[0]["nodes"] if found and words[0] == "list" else found
+        elif words == ("list",):
+            site.checks.need(len(ran.out) > 1 and ran.out[1].endswith(f"  1 {word}"), f"list of a {word} node: {ran}")
+        site.checks.same(found, wanted, f"{words} of a {word} node")
+
+
+def check_lost(site):
+    """A node whose session has ended is lost, with no advice to clean up for it, and dead as soon as others get it."""
+    words = site.words("hold", LOG_OF_LOST, "--node", "1", "event", "create", NAME, "max_nodes=2")
+    process = site.living_of(words, LOG_OF_LOST, 1, site.environment(PGOPTIONS=""))
+    site.checks.same(process.hear(), f"name: {NAME}", "a hold whose session will end")
+    os.kill(until(process.psql, pause=PAUSE), signal.SIGKILL)
+    process.ended()
+    check_looks(site, "lost")
+    site.server.told(UNFOUND.format(LOG_OF_LOST))
+    nodes = lambda: site.ran("nodes", LOG_OF_LOST, PGOPTIONS="").out
+    began, found = time.monotonic(), nodes()
+    is_dead = until(lambda: nodes() == ["node 1 dead"], pause=PAUSE)
+    took = time.monotonic() - began
+    fine = found == ["node 1 lost"] and is_dead and LOST_FOR <= took < LOST_FOR + MARGIN
+    site.checks.need(fine, f"a node told as {found} was dead after {took:.1f} seconds: {is_dead}")
+    check_looks(site, "dead")
+
+
 def commands(site):
     """A service is held by two processes of which one is killed, while others watch."""
     if site.is_plain:
@@ -145,7 +198,7 @@ def commands(site):
     show = shown.once("show", NAME)
     need(show.out[:1] == [f"name: {NAME}"] and "node 2: 1 factories, alive" in show.out, f"show: {show}")
     absent = shown.once("show", "nothing")
-    need(absent.status == REFUSED and "no such service" in absent.err, f"show of no service: {absent}")
+    need(absent.status == REFUSED and absent.err.endswith(NO_SERVICE), f"show of no service: {absent}")
     opener.kill(shown)
     check_dead(shown)
     check_change(shown, watch, "left", 2)
@@ -158,4 +211,5 @@ def commands(site):
     check_listed(shown, {}, "after all have ended")
     check_log(shown, first, follower)
     check_damaged(shown)
+    check_lost(site)
     return None

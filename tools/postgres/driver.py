@@ -10,7 +10,7 @@ from postgres import texts
 PSQL = ["psql", "--no-psqlrc", "--quiet", "--no-align", "--tuples-only", "--no-password", "--set", "VERBOSITY=sqlstate"]
 PSQL += ["--set", "ON_ERROR_STOP=0", "--set", "FETCH_COUNT=0"]
 PIECE = 64
-VERSION = "2"
+VERSION = "3"
 BUSY = "55P03"
 
 

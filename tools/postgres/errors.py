@@ -298,11 +298,11 @@ def version(site):
     server.told("create database another")
     server.script("another", f"\\i {SCHEMA}")
     body = server.told("select prosrc from pg_proc where proname = 'opened'", database="another")
-    text = "\n".join(body).replace("concat_ws(' ', 2,", "concat_ws(' ', 1,")
+    text = "\n".join(body).replace("concat_ws(' ', 3,", "concat_ws(' ', 2,")
     head = "create or replace function wulameron.opened(name text, makes boolean) returns setof text language plpgsql"
     tail = f"security definer set search_path = pg_catalog, pg_temp as $$ {text} $$"
     server.told(f"{head} {tail}", database="another")
-    check_program(site, "another version", "errors", ["the tables are of version 1; "], PGDATABASE="another")
+    check_program(site, "another version", "errors", ["the tables are of version 2; "], PGDATABASE="another")
 
 
 def busy(site):

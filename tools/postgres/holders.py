@@ -1,11 +1,12 @@
 """Holders that do nothing while their sessions end, each beside a newcomer that creates the same service again and again.
-Each holder is told before its newcomer gets the service: a `hold` and a `run` by the launcher's line and status, a caller in
-C and one in Python by a code. Sessions end in all ways: the server is stopped in order or at once and started again, ends
-one session, a psql is killed, a link is cut, and a standby is promoted. All moments are of the one clock of this machine."""
+Each holder is told before its newcomer gets the service: a `hold` by the launcher's line, a `run` by another one and its
+status, a caller in C and one in Python by a code. A `hold` that reaches a server in time goes on, and its newcomer never gets
+the service. Sessions end in all ways: the server is stopped in order or at once and started again, ends one session, a psql
+is killed, a link is cut, and a standby is promoted. All moments are of the one clock of this machine."""
 import contextlib
+import json
 import os
 import pathlib
-import re
 import shutil
 import signal
 import socket
@@ -13,21 +14,22 @@ import subprocess
 import sys
 import threading
 import time
+from dataclasses import dataclass
 
 from postgres.checks import SECONDS, until
 from postgres.driver import Client
 from postgres.errors import WRONG_ARGUMENTS
 from postgres.failover import STANDBY, takes_over
+from postgres.holds import GONE, ended, holds, stood
 from postgres.networks import Network
 from postgres.server import FAST, IMMEDIATE, LAUNCHER, ORDINARY, PAUSE, TOP, Server, replica
-from postgres.site import FAULT, LOST, waiting
+from postgres.site import FAULT, LOST, LOST_FOR, waiting
 
-# How long a newcomer goes on, and how soon it asks again.
-GOES_ON, NEXT = 20, 0.02
-# How soon a holder is told where the server or psql is at fault, and where a link is cut, also on a slow machine.
-TOLD, TOLD_CUT = 3, 10
-# How long a node is lost.
-LOST_FOR = 3
+# How long a newcomer goes on, and how soon it asks again: at first, and as long as a `hold` stands that stood again before.
+GOES_ON, NEXT, LATER, AT_FIRST = 20, 0.02, 0.2, 8
+# How soon a holder is told where the server or psql is at fault, and where a link is cut, also under load: a server that is
+# stopped in order takes two seconds for that then.
+TOLD, TOLD_CUT = 5, 10
 # How long a session lasts at most before it ends, and a server is away.
 LASTS, AWAY = 1.5, 0.7
 # Connections by which a server would notice a link that is cut before the holder does.
@@ -37,7 +39,6 @@ SLOW = (["-d", "dbname=logs keepalives_idle=60"], ["-d", "postgresql:///logs?kee
 # How many holders there are at once, and by how many ends of them a link is cut, or a standby is promoted.
 CUTS, PROMOTIONS = 24, 100
 BINDINGS, WATCHER = TOP / "bindings", TOP / "postgres/wulameron-postgres-watch"
-UNIT, HOLD = TOP / "contrib/wulameron-hold@.service", TOP / "contrib/wulameron-hold"
 CALLER = """
 import sys, time, wulameron as w
 program, path, node, name = sys.argv[1:]
@@ -57,33 +58,45 @@ CODE = 33
 
 
 class Holder:
-    """A process that holds a service, and is told once that this is lost: when, or nothing."""
+    """A process that holds a service, and is told once that this is lost: when, or nothing. A `hold` may go on then."""
 
-    def __init__(self, place, words, environment, name, is_caller):
-        self.name, self.is_caller, self.told, self.out = name, is_caller, None, ""
-        self.lost = LOST.format(place.log)
+    def __init__(self, place, kind, node, name, environment):
+        self.kind, self.node, self.name, self.log = kind, node, name, place.log
+        self.is_caller = kind in ("c", "python")
+        self.told, self.lines, self.heard = None, [], threading.Event()
         streams = {stream: subprocess.PIPE for stream in ("stdin", "stdout", "stderr")}
-        words = [*place.front, *words]
+        words = [*place.front, *place.words(kind, node, name)]
         self.process = subprocess.Popen(words, env=environment | {"PGAPPNAME": name}, text=True, **streams)
-        # A `hold` reads that, and takes it for nothing.
-        if not is_caller:
+        # The launcher throws away what comes on the input of a `hold`.
+        if not self.is_caller:
             self.process.stdin.write(f"event create - 0 {name}\n")
             self.process.stdin.flush()
         self.is_held = bool(self.process.stdout.readline())
-        self.thread = threading.Thread(target=self.wait, daemon=True)
+        self.thread = threading.Thread(target=self.hear, daemon=True)
         self.thread.start()
 
-    def wait(self):
-        """Waits until it is told."""
+    def hear(self):
+        """Keeps all lines that it is told. The first one may tell that what it holds is lost."""
+        for line in self.process.stdout if self.is_caller else self.process.stderr:
+            self.told = self.told if self.lines else self.moment(line)
+            self.lines.append(line)
+            self.heard.set()
+        self.heard.set()
+
+    def moment(self, line):
+        """When a line told that what it holds is lost, if it did."""
+        if not self.is_caller:
+            return time.monotonic() if line == self.wanted()[0] else None
+        cells = line.split()
+        return float(cells[1]) if cells[:1] == [str(CODE)] and cells[2:] == [self.name] else None
+
+    def wanted(self, stands=False):
+        """What it has to be told in all: of a `hold` that stands again once, or of one whose service is gone."""
         if self.is_caller:
-            self.out = self.process.stdout.readline()
-            cells = self.out.split()
-            if cells[:1] == [str(CODE)] and cells[2:] == [self.name]:
-                self.told = float(cells[1])
-        else:
-            self.out = self.process.stderr.readline()
-            if self.out == self.lost:
-                self.told = time.monotonic()
+            return self.lines[:1]
+        again = stood(self.log, self.name)
+        gone = [*again[:-1], *ended(self.log, self.name, GONE)]
+        return [LOST.format(self.log)] if self.kind != "hold" else again if stands else gone
 
     def status(self):
         """How it ended, if it has."""
@@ -91,6 +104,13 @@ class Holder:
             return self.process.wait(SECONDS if self.told else 0.1)
         self.process.kill()
         return None
+
+    def end(self):
+        """Ends its input, and gives its status, with all that it was told."""
+        self.process.stdin.close()
+        status = self.status()
+        self.thread.join(SECONDS)
+        return status
 
 
 class Newcomer(threading.Thread):
@@ -117,7 +137,7 @@ class Newcomer(threading.Thread):
                 elif not self.replies[1]:
                     return
                 else:
-                    time.sleep(NEXT)
+                    time.sleep(NEXT if time.monotonic() < self.deadline - GOES_ON + AT_FIRST else LATER)
 
     def end(self):
         """Ends it, with what it holds."""
@@ -133,6 +153,8 @@ class Place:
         self.environment = site.environment(server, **{"WULAMERON_RECONNECT": str(SECONDS), "PGOPTIONS": ""} | environment)
         self.front, self.newcomers, self.own = [], [], {}
         self.log, self.rounds = None, 0
+        # The holds that stand again, whose newcomers go on.
+        self.standing = []
 
     def words(self, kind, node, name):
         """The words by which a holder is begun."""
@@ -149,16 +171,16 @@ class Place:
         self.log = f"holders-{self.rounds}"
         callers = {"WULAMERON_LIBRARY": str(self.room / "libwulameron.so"), "PYTHONPATH": str(BINDINGS / "python")}
         environment = self.environment | self.own | callers
-        names = {kind: f"{kind}-{self.rounds}" for kind in kinds}
-        found = {kind: Holder(self, self.words(kind, node, name), environment, name, kind in ("c", "python"))
-                 for node, (kind, name) in enumerate(names.items(), 1)}
+        names = {kind: f"{kind}-{self.server.folder.name}-{self.rounds}" for kind in kinds}
+        found = {kind: Holder(self, kind, node, name, environment) for node, (kind, name) in enumerate(names.items(), 1)}
         newcomers = {kind: Newcomer(self, name, self.environment) for kind, name in names.items()}
         for kind, holder in found.items():
             self.checks.need(holder.is_held, f"{kind}: a holder that holds nothing")
         return found, newcomers
 
-    def strike(self, what, way, kinds, soon=TOLD):
-        """Has all sessions of the holders end, at a drawn moment, and looks who was told, and who got what, and when."""
+    def strike(self, what, way, kinds, soon=TOLD, mend=None):
+        """Has all sessions of the holders end, at a drawn moment, and looks who was told, and who got what, and when. A link that
+        was cut is mended once newcomers have got what was held. Otherwise a `hold` stands again."""
         holders, newcomers = self.begin(kinds)
         for newcomer in newcomers.values():
             newcomer.start()
@@ -170,23 +192,71 @@ class Place:
         for newcomer in newcomers.values():
             newcomer.deadline = struck + GOES_ON
         way(holders)
-        for kind, holder in holders.items():
-            newcomer = newcomers[kind]
-            newcomer.join(SECONDS)
-            holder.thread.join(GOES_ON)
-            self.check(f"{what}, {kind}", struck, holder, newcomer, soon)
-            newcomer.end()
+        ends = [End(f"{what}, {kind}", struck, holder, newcomers[kind], soon) for kind, holder in holders.items()]
+        self.standing += [end for end in ends if end.holder.kind == "hold" and not mend]
+        ends = [end for end in ends if end not in self.standing]
+        for end in ends:
+            end.newcomer.join(SECONDS)
+            end.holder.heard.wait(GOES_ON)
+        if mend:
+            mend()
+        for end in ends:
+            self.check(end)
+        self.settle([end for end in self.standing if not end.newcomer.is_alive()])
 
-    def check(self, what, struck, holder, newcomer, soon):
-        """A holder was told soon, and before its newcomer got the service."""
-        need, told, got, status = self.checks.need, holder.told, newcomer.got, holder.status()
+    def check(self, end):
+        """A holder was told soon, and before its newcomer got the service. It has ended."""
+        need, told, got = self.checks.need, end.holder.told, end.newcomer.got
+        status = end.holder.status()
+        end.holder.thread.join(SECONDS)
         self.checks.count("ends of idle holders")
-        after = lambda moment: f"after {moment - struck:.3f} seconds" if moment else "never"
-        what = f"{what}: told {after(told)}, the newcomer got it {after(got)}"
-        need(told and (status == 0 if holder.is_caller else status == FAULT), f"{what}; status {status}, {holder.out!r}")
-        need(got, f"{what}: {newcomer.replies}")
-        need(not told or not got or told < got, f"{what}: not before")
-        need(not told or told - struck < soon, f"{what}: not soon")
+        need(told and (status == 0 if end.holder.is_caller else status == FAULT), f"{end}; status {status}, {end.holder.lines}")
+        need(got, f"{end}: {end.newcomer.replies}")
+        need(not told or not got or told < got, f"{end}: not before")
+        need(not told or told - end.struck < end.soon, f"{end}: not soon")
+        self.checks.same(end.holder.lines, end.holder.wanted(), f"{end}: what it was told")
+        end.newcomer.end()
+
+    def settle(self, ends):
+        """These holds were told soon that their sessions were lost, and go on in other ones: newcomers have never got what they
+        hold. Later ends of sessions may have met them, too. When their inputs end, they give back what they hold."""
+        for end in ends:
+            holder = end.holder
+            end.newcomer.join(SECONDS)
+            self.checks.need(holder.told and holder.told - end.struck < end.soon, f"{end}: not soon; {holder.lines}")
+            self.checks.need(not end.newcomer.got, f"{end}: {end.newcomer.replies}")
+            alive = {"alive": True, "factories": 1, "node": holder.node, "state": "alive"}
+            self.checks.same(self.listed(holder), [alive], f"{end}: what is listed")
+            status = holder.end()
+            count = max(len(holder.lines) // len(holder.wanted(True)), 1)
+            self.checks.count("ends of idle holders", count)
+            wanted = holder.wanted(True) * count
+            self.checks.same((status, holder.lines), (0, wanted), f"{end}: its status, and what it was told")
+            self.checks.same(self.listed(holder), [], f"{end}: what is listed in the end")
+            end.newcomer.end()
+            self.standing.remove(end)
+
+    def listed(self, holder):
+        """The nodes of the holder's service, as they are listed."""
+        words = [str(LAUNCHER), "list", "--json", "--at", f"postgres:{holder.log}"]
+        ran = self.site.finished(words, [], self.environment)
+        found = {one["name"]: one["nodes"] for one in json.loads("".join(ran.out) or "[]")}
+        return found.get(holder.name, []) if ran.status == 0 else ran
+
+
+@dataclass(eq=False)
+class End:
+    """The end of a holder's session: what it was, when that came, beside whom, and how soon the holder has to be told."""
+
+    what: str
+    struck: float
+    holder: Holder
+    newcomer: Newcomer
+    soon: float
+
+    def __str__(self):
+        after = lambda moment: f"after {moment - self.struck:.3f} seconds" if moment else "never"
+        return f"{self.what}: told {after(self.holder.told)}, the newcomer got it {after(self.newcomer.got)}"
 
 
 def psql_of(name):
@@ -224,7 +294,8 @@ def killed(_, holders):
 
 
 def at_server(site, room, kinds, rounds):
-    """Each way that a server and psql have, and so many rounds in all."""
+    """Each way that a server and psql have, and so many rounds in all. A newcomer beside a `hold` goes on for some rounds, so the
+    last one has no `hold` of its own."""
     server, hosts = served(site, "holders-server")
     place = Place(site, server, room)
     ways = {
@@ -236,7 +307,8 @@ def at_server(site, room, kinds, rounds):
     drawn = list(ways) + site.checks.random.choices(list(ways), k=max(rounds - len(ways), 0))
     for number, what in enumerate(drawn):
         place.environment["PGHOST"] = hosts[number % len(hosts)]
-        place.strike(what, ways[what], kinds)
+        place.strike(what, ways[what], [kind for kind in kinds if kind != "hold" or number + 1 < len(drawn)])
+    place.settle(list(place.standing))
     server.stop()
 
 
@@ -248,12 +320,11 @@ def served(site, name):
 
 
 def beside(site, *_):
-    """The watcher, what is refused, nodes that are free at once, and the unit."""
+    """The watcher, what is refused, and nodes that are free at once."""
     server, hosts = served(site, "holders-beside")
     watching(site, server, hosts)
     slow(site, server)
     freed(site, server)
-    unit(site, server)
     server.stop()
 
 
@@ -327,34 +398,6 @@ def freed(site, server):
             process.end()
 
 
-def unit(site, server):
-    """The unit of contrib over a database: a lost session ends it so that systemd starts it again, and what it runs behind a
-    stop cleans up by the launcher."""
-    text = UNIT.read_text(encoding="utf-8")
-    lines = {name: re.search(rf"^{name}=-?(.*)$", text, re.MULTILINE)[1] for name in ("ExecStart", "ExecStopPost", "Restart")}
-    given = {"NODE": "1", "CALL": "event create unit", "WULAMERON": str(LAUNCHER), "WULAMERON_LOG": "postgres:unit"}
-    environment = site.environment(server, PGAPPNAME="unit", **given)
-    words = lambda name: [word for part in lines[name].replace("/usr/local/bin/wulameron-hold", str(HOLD)).split()
-                          for word in (given[part.strip("${}")].split() if part.startswith("$") else [part])]
-    # The launcher finds the program beside it, or on the path.
-    programs = site.room / "unit"
-    programs.mkdir()
-    (programs / "wulameron").symlink_to(site.program)
-    environment["PATH"] = f"{programs}:{environment['PATH']}"
-    with open(programs / "told", "w", encoding="utf-8") as told:
-        process = subprocess.Popen(words("ExecStart"), env=environment, text=True, stdin=subprocess.DEVNULL,
-                                   stdout=subprocess.PIPE, stderr=told)
-    site.checks.same(process.stdout.readline(), "name: unit\n", "the unit holds")
-    site.checks.need("t" in server.told("select pg_terminate_backend(pid) from pg_stat_activity where application_name = 'unit'"),
-                     "the unit has no session")
-    status = process.wait(SECONDS)
-    found = (status, lines["Restart"], (programs / "told").read_text(encoding="utf-8"))
-    site.checks.same(found, (FAULT, "on-failure", LOST.format("unit")), "the unit when its session is lost")
-    environment.pop("PGAPPNAME")
-    ran = site.finished(words("ExecStopPost"), [], environment)
-    site.checks.same((ran.status, ran.out, ran.err), (0, ["node 1: 1 releases, 3 removals"], ""), "what the unit runs then")
-
-
 def at_machines(site, room, kinds, rounds):
     """The link of the holders is cut, and the newcomers are on another machine. Nothing where no namespace can be made."""
     try:
@@ -369,8 +412,7 @@ def at_machines(site, room, kinds, rounds):
         place.own = {"PGHOST": far.server}
         place.front, place.newcomers = (["ip", "netns", "exec", machine.name] for machine in (far, near))
         for _ in range(rounds):
-            place.strike("a link cut", lambda _: far.cut(), kinds, TOLD_CUT)
-            far.mend(server.port)
+            place.strike("a link cut", lambda _: far.cut(), kinds, TOLD_CUT, lambda: far.mend(server.port))
         server.stop()
     finally:
         entered.__exit__()
@@ -387,6 +429,7 @@ def at_standby(site, room, kinds, rounds):
         place = Place(site, first, room, **hosts, PGTARGETSESSIONATTRS="read-write")
         place.rounds = number
         place.strike("a standby promoted", lambda _: takes_over(site, first, second), kinds)
+        place.settle(list(place.standing))
         first = second
     first.stop()
 
@@ -413,12 +456,17 @@ def holders(site):
     cuts, promotions = (-(-site.ends // each) for each in (CUTS, PROMOTIONS))
     rounds = -(-site.ends // len(kinds)) - cuts - promotions
     threads = [threading.Thread(target=guarded, args=[site, part, room, kinds, count], daemon=True)
-               for part, count in ((at_server, rounds), (at_machines, cuts), (at_standby, promotions), (beside, 0))]
+               for part, count in ((at_server, rounds), (at_machines, cuts), (at_standby, promotions), (beside, 0), (alone, 0))]
     for thread in threads:
         thread.start()
     for thread in threads:
         thread.join()
     return None
+
+
+def alone(site, *_):
+    """What a `hold` does without a newcomer."""
+    holds(site)
 
 
 def guarded(site, part, *words):

@@ -86,7 +86,7 @@ def questions(checks, server):
         same(one.ask(texts.opening("rights", False, PATIENCE), "opened"), ["opened 00000"], "opening no log")
         told = one.ask(texts.opening("rights", True, PATIENCE), "opened")
         log, chain = told[0].split(" ")[1], told[0].split(" ")[5]
-        same(told, [f"2 {log} 0 1 0 {chain}", "opened 00000"], "opening")
+        same(told, [f"3 {log} 0 1 0 {chain}", "opened 00000"], "opening")
         one.call("set idle_in_transaction_session_timeout = 0")
         same(other.ask(texts.opening("rights", False, PATIENCE), "opened"), told, "opening it again")
         same(other.ask(texts.reopening("rights"), "opened"), told, "reopening")
@@ -224,7 +224,7 @@ def forgetting(checks, server):
 
 
 def claims(checks, server):
-    """A node is one session's, and dead when that ends."""
+    """A node is one session's, and lost when that ends."""
     with clients(server, 3) as (one, other, third):
         ask, same = (lambda session, text, word="claimed": session.ask(text, word)), checks.same
         same(ask(one, texts.listing("claims"), "listed"), ["listed 00000"], "the nodes of no log")
@@ -243,7 +243,7 @@ def claims(checks, server):
         other.call(f"set lock_timeout = {LONG}")
         same(ask(other, texts.claiming("claims", 3, True)), ["t", "claimed 00000"], "a claim of a node that is dead")
         checks.need(server.wait_gone([pid]), "the session of psql that was killed isn't ended")
-        wanted = ["0 dead", "1 alive", "2 alive", "3 alive", "4 alive", "5 alive", "listed 00000"]
+        wanted = ["0 lost", "1 alive", "2 alive", "3 alive", "4 alive", "5 alive", "listed 00000"]
         same(ask(other, texts.listing("claims"), "listed"), wanted, "the nodes")
         for told in ("t", "f"):
             same(ask(other, texts.releasing("claims", 3), "released"), [told, "released 00000"], "a release")
@@ -281,13 +281,18 @@ def lose(checks, server, nodes):
 
 def lost(checks, server):
     """A node whose session has ended is lost for three seconds from when that was found: only its own process gets it then,
-    and whoever won't wait. One that was given back in order is free."""
+    and whoever won't wait. To these two it is told as dead, as to all others after that time. One that was given back in
+    order is free."""
     near = lambda seconds, wanted: wanted - 0.2 < seconds < wanted + MARGIN
     lose(checks, server, range(1, 8))
     own, now, other, third, fourth, back = (of_process(server, name) for name in ("own-1", "x", "y", "z", "w", "own-6"))
     now.call("set wulameron.now = on")
     found, begin = server.told("select wulameron.nodes('lost')"), time.monotonic()
-    checks.same(found, [f"{node} dead" for node in range(1, 8)], "nodes that were lost")
+    states = lambda word, others: [f"{node} {word if node == 1 else others}" for node in range(1, 8)]
+    checks.same(found, states("lost", "lost"), "nodes that were lost")
+    listed = lambda session: session.call("select wulameron.nodes('lost')")
+    checks.same(listed(own), states("dead", "lost"), "nodes that were lost, as told to a process that had one of them")
+    checks.same(listed(now), states("dead", "dead"), "nodes that were lost, as told to one that won't wait")
     checks.same(other.ask(texts.claiming_free("lost"), "claimed")[0], "0", "the lowest node that isn't lost")
     for session, node, whose in ((own, 1, "its own process"), (now, 2, "one that won't wait")):
         told, seconds = took(session, node, True)
@@ -300,6 +305,8 @@ def lost(checks, server):
     for session, wanted in ((other, "t"), (third, "t"), (fourth, "f")):
         told, seconds = session.hear("claimed")[0], time.monotonic() - begin
         checks.need(told == wanted and near(seconds, 3), f"a claim of a lost node: {told} after {seconds:.2f} seconds")
+    wanted = [f"{node} {'dead' if node in (5, 7) else 'alive'}" for node in range(8)]
+    checks.same(server.told("select wulameron.nodes('lost')"), wanted, "nodes after that time")
     told, seconds = took(now, 5, False)
     checks.need(told == "t" and near(seconds, 0), f"a node that is lost no more: {told} after {seconds:.2f} seconds")
     checks.same(now.ask(texts.releasing("lost", 5), "released")[0], "t", "a release")

@@ -143,8 +143,8 @@ class Server:
         return until(lambda: not self.told(query), pause=PAUSE)
 
     def wait_dead(self, name):
-        """Waits until each node of a log is dead, as those are whose processes have ended; gives the ones that aren't."""
-        query = f"select * from wulameron.nodes('{name}') as one where one not like '% dead'"
+        """Waits until each node of a log is dead or lost, as those are whose processes have ended; gives the ones that aren't."""
+        query = f"select * from wulameron.nodes('{name}') as one where one like '% alive'"
         until(lambda: not self.told(query), pause=PAUSE)
         return self.told(query)
 

@@ -15,14 +15,18 @@ from postgres.server import IMMEDIATE, LAUNCHER, Server
 PLAIN = pathlib.Path(__file__).resolve().parent / "plain"
 # For how many milliseconds a call waits for a log that others hold.
 PATIENCE = 30000
-# What else the launcher has begun.
-NOT_PROGRAMS = ("bash", "setpriv")
+# What else the launcher has begun: its keeper, what has a program end with it, and the feeder of a `hold`, at first a bash.
+NOT_PROGRAMS = ("bash", "setpriv", "cat")
 # The commands that take a log or a node, which others may have a moment longer.
 TAKING = ("run", "hold", "clean")
 # How a program ends that can't use its log any more, and what the launcher tells where it has ended the program, since that
 # didn't ask for another session in place of one that had ended.
 FAULT = 3
 LOST = "wulameron-postgres: postgres:{}: the session was lost, and others may take what this process held; start it again\n"
+# What it tells as it wakes a `hold`.
+WOKEN = "wulameron-postgres: postgres:{}: the session was lost, and others may take what this process holds; connecting again\n"
+# For how many seconds a node is lost.
+LOST_FOR = 3
 # What another session has, and whether it does nothing meanwhile, by the name that it goes under.
 AT_WORK = """select a.state, a.wait_event, a.pid, exists (select from pg_locks l where l.pid = a.pid
     and locktype = 'advisory' and classid = 'wulameron.logs'::regclass and granted), a.state_change

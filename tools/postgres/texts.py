@@ -104,5 +104,5 @@ def releasing(name, node):
 
 
 def listing(name):
-    """Each node that was ever claimed, and whether it is alive."""
+    """Each node that was ever claimed, and whether it is alive, lost or dead."""
     return f"select wulameron.nodes('{name}');\n\\echo listed :SQLSTATE\n"
