@@ -124,6 +124,24 @@ static void leaves(void)
     GIVES(WULAMERON_ENDED, wulameron_close_session(session));
 }
 
+/* The states of nodes, and a word that is none. */
+static void states(void)
+{
+    static const uint32_t wanted[] = {WULAMERON_ALIVE, WULAMERON_NODE_LOST, WULAMERON_DEAD, WULAMERON_NODE_ENDED};
+    wulameron_session *session = answered("echo 'nodes 5 0,alive 3,lost 5,dead 8,ended 9,asleep'");
+    uint64_t count = 0, node = 9, k;
+    uint32_t state = 9;
+    GIVES(WULAMERON_OK, wulameron_nodes(session, &count));
+    CHECK(count == 5);
+    for (k = 0; k < 4; k++) {
+        GIVES(WULAMERON_OK, wulameron_get_node(session, k, &node, &state));
+        CHECK(state == wanted[k]);
+    }
+    GIVES(WULAMERON_ENDED, wulameron_get_node(session, 4, &node, &state));
+    CHECK(node == 8 && state == WULAMERON_NODE_ENDED);
+    GIVES(WULAMERON_ENDED, wulameron_close_session(session));
+}
+
 /* Where the log refuses for good each call tells so, and where it refuses once the others go on. */
 static void refusing(void)
 {
@@ -215,6 +233,7 @@ int main(int count, char **words)
     greetings();
     other_replies();
     leaves();
+    states();
     refusing();
     lost();
     endless();

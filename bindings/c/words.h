@@ -18,7 +18,7 @@ static const char *const patterns[] = {"none", "event", "pubsub", "rr", NULL};
 static const char *const hows[] = {"", "create", "open", "open_or_create"};
 static const char *const variants[] = {"", "fixed", "dynamic", NULL};
 static const char *const states[] = {"", "being_created", "published", "marked", "segment_alone", NULL};
-static const char *const lives[] = {"", "alive", "dead", "ended", NULL};
+static const char *const lives[] = {"", "alive", "dead", "ended", "lost", NULL};
 
 /* What a setting takes: a number, one or none, a length of time or none, a flag, an alignment, a type; the
  * clock's time. The others can be read alone. */

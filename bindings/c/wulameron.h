@@ -136,10 +136,12 @@ typedef struct wulameron_session wulameron_session;
 #define WULAMERON_PUBLISHED 2u
 #define WULAMERON_MARKED 3u       /* its last node has left, and something of it is left */
 #define WULAMERON_SEGMENT_ALONE 4u
-/* Of a node: a process has it; that process is gone and left something, or left nothing. */
+/* Of a node: a process has it; that process is gone and left something, or left nothing; its session with a database has
+ * ended, and for some seconds only its own process gets it. */
 #define WULAMERON_ALIVE 1u
 #define WULAMERON_DEAD 2u
 #define WULAMERON_NODE_ENDED 3u
+#define WULAMERON_NODE_LOST 4u
 
 /* Why a call was refused: a thousand for the error's enum, and the place of the value in it, counted from 1. An open or
  * create has those of its open from 3001, 6001 and 9001 on, those of its create from 3501, 6501 and 9501 on, and 3999,
@@ -266,8 +268,8 @@ uint32_t wulameron_get_reply(wulameron_session *session, char *output, size_t si
 uint32_t wulameron_node(wulameron_session *session, uint64_t *node);
 /* Looks which nodes were ever claimed at the log, and tells how many. */
 uint32_t wulameron_nodes(wulameron_session *session, uint64_t *count);
-/* The node of this index of the last look, by rising number, and its state: WULAMERON_ALIVE, WULAMERON_DEAD or
- * WULAMERON_NODE_ENDED. */
+/* The node of this index of the last look, by rising number, and its state: WULAMERON_ALIVE, WULAMERON_DEAD,
+ * WULAMERON_NODE_ENDED or WULAMERON_NODE_LOST. */
 uint32_t wulameron_get_node(wulameron_session *session, uint64_t index, uint64_t *node, uint32_t *state);
 /* Gives back what a dead node has, or with WULAMERON_ANY_NODE what each has: tells how many nodes had something, how
  * many places at services they left, and how many things were removed, such as tags, segments and descriptions. With

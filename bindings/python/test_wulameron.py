@@ -19,6 +19,12 @@ HERE = pathlib.Path(__file__).resolve().parent
 os.environ.setdefault("WULAMERON", str(HERE.parent.parent / "crates/wulameron/out/wulameron"))
 
 
+# A program for sessions that knows nodes.
+KNOWING = """#!/bin/sh
+echo 'ready 3 5'
+while read -r line; do echo 'nodes 2 4,lost 5,alive'; done
+"""
+
 # A program for sessions that grants two calls, and loses its session at the next line.
 LOSING = """#!/bin/sh
 echo 'ready 3 5'
@@ -238,17 +244,32 @@ class OverLog(unittest.TestCase):
             other.kill()
             other.wait()
             end = time.monotonic() + 20
-            while session.nodes()[0] != (0, False) and time.monotonic() < end:
+            while session.nodes()[0] != (0, w.NodeState.ENDED) and time.monotonic() < end:
                 time.sleep(0.02)
+            self.assertEqual(session.nodes()[0], (0, w.NodeState.ENDED))
             self.assertEqual(session.list(), 0)
             self.assertEqual(session.clean(), w.Cleaned(0, 0, 0))
 
+    def program(self, text):
+        """The path of a program with this text."""
+        program = self.path.parent / "program"
+        program.write_text(text, encoding="utf-8")
+        program.chmod(0o700)
+        return str(program)
+
+    def test_lost_node(self):
+        """A node of which only its own process may know whether it goes on."""
+        session = w.Session(self.path, program=self.program(KNOWING))
+        self.assertEqual(session.nodes(), [(4, w.NodeState.LOST), (5, w.NodeState.ALIVE)])
+        self.assertFalse(session.nodes()[0].is_alive)
+        # Its end isn't that of a program which has closed all.
+        with self.assertRaises(w.WulameronError) as ended:
+            session.close_session()
+        self.assertIs(ended.exception.code, w.Code.ENDED)
+
     def test_session_lost(self):
         """A program whose session with a database is lost tells so, and the caller learns what it held."""
-        program = self.path.parent / "program"
-        program.write_text(LOSING, encoding="utf-8")
-        program.chmod(0o700)
-        with self.assertRaises(w.SessionLost) as lost, w.Session(self.path, program=str(program)) as session:
+        with self.assertRaises(w.SessionLost) as lost, w.Session(self.path, program=self.program(LOSING)) as session:
             for slot, name in ((3, "two lamps"), (4, "doors")):
                 session.begin(w.EVENT, w.OPEN, session.node, name)
                 session.send(slot)

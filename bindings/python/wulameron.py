@@ -212,11 +212,13 @@ class Entry(NamedTuple):
 
 
 class NodeState(enum.IntEnum):
-    """Whether a node's process is alive, and if it is gone, whether it left something (DEAD) or nothing (ENDED)."""
+    """Whether a node's process is alive, and if it is gone, whether it left something (DEAD) or nothing (ENDED). The session
+    of a LOST one with a database has ended, and for some seconds only its own process gets it."""
 
     ALIVE = 1
     DEAD = 2
     ENDED = 3
+    LOST = 4
 
 
 class KnownNode(NamedTuple):

@@ -43,6 +43,8 @@ pub enum NodeState {
     Dead,
     /// Its process is gone, and nothing is left.
     Ended,
+    /// Its session with a database has ended, and for some seconds only its own process gets it.
+    Lost,
 }
 
 /// A node that was ever claimed at a log, and its state.
@@ -129,6 +131,7 @@ impl Node {
             let state = match state {
                 raw::ALIVE => NodeState::Alive,
                 raw::DEAD => NodeState::Dead,
+                raw::NODE_LOST => NodeState::Lost,
                 _ => NodeState::Ended,
             };
             Ok(KnownNode { number, state })

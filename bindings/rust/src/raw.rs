@@ -11,9 +11,10 @@ pub const NONE: u32 = 22;
 pub const LOG: u32 = 26;
 pub const BAD_LINE: u32 = 31;
 pub const LOST: u32 = 33;
-/// The states of a node whose process is alive, and of one whose process is gone and left something.
+/// The states of a node whose process is alive, of one whose process is gone and left something, and of a lost one.
 pub const ALIVE: u32 = 1;
 pub const DEAD: u32 = 2;
+pub const NODE_LOST: u32 = 4;
 /// None of wulameron.h: all 64 slots are taken.
 pub const NO_FREE_SLOT: u32 = 100;
 

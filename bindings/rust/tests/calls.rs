@@ -224,14 +224,33 @@ fn a_log_is_looked_at() -> Outcome {
     Ok(())
 }
 
+/// A program in words of the shell, beside a log: its path.
+fn program(log: &Log, lines: &[&str]) -> std::io::Result<PathBuf> {
+    let program = log.0.join("program");
+    std::fs::write(&program, format!("#!/bin/sh\n{}\n", lines.join("\n")))?;
+    std::fs::set_permissions(&program, std::fs::Permissions::from_mode(0o700))?;
+    Ok(program)
+}
+
+/// A node of which only its own process may know whether it goes on.
+#[test]
+fn a_node_may_be_lost() -> Outcome {
+    let log = Log::new("states")?;
+    let lines = ["echo 'ready 3 5'", "while read -r line; do echo 'nodes 2 4,lost 5,alive'; done"];
+    let program = program(&log, &lines)?;
+    let node = NodeBuilder { path: Some(log.path()), program: Some(program), ..NodeBuilder::default() }.create()?;
+    let known = |number, state| KnownNode { number, state };
+    assert_eq!(node.nodes()?, [known(4, NodeState::Lost), known(5, NodeState::Alive)]);
+    assert!(!node.nodes()?[0].is_alive());
+    Ok(())
+}
+
 /// A program that grants a call, and loses its session with a database at the next line.
 #[test]
 fn a_lost_session_names_what_was_held() -> Outcome {
     let log = Log::new("lost")?;
-    let program = log.0.join("program");
     let lines = ["echo 'ready 3 5'", "read -r line; echo 'ok 0 number=0'", "read -r line; echo lost; exit 3"];
-    std::fs::write(&program, format!("#!/bin/sh\n{}\n", lines.join("\n")))?;
-    std::fs::set_permissions(&program, std::fs::Permissions::from_mode(0o700))?;
+    let program = program(&log, &lines)?;
     let node = NodeBuilder { path: Some(log.path()), program: Some(program), ..NodeBuilder::default() }.create()?;
     let lamps = node.service_builder("two lamps").event().open()?;
     let failure = node.services().err().ok_or("the session isn't lost")?;
