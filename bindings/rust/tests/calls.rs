@@ -1,7 +1,6 @@
 //! What the pages tell of calls.
 use std::error::Error;
 use std::fmt::Debug;
-use std::os::unix::fs::PermissionsExt;
 use std::path::PathBuf;
 use std::process::{Command, Stdio};
 use std::time::Duration;
@@ -224,12 +223,14 @@ fn a_log_is_looked_at() -> Outcome {
     Ok(())
 }
 
-/// A program in words of the shell, beside a log: its path.
-fn program(log: &Log, lines: &[&str]) -> std::io::Result<PathBuf> {
+/// A program in words of the shell, beside a log: its path. A shell writes it. Were it open here, a process that another
+/// test starts at that moment would have it open too, and a file that is open to write can't be started (ETXTBSY).
+fn program(log: &Log, lines: &[&str]) -> Result<PathBuf, Box<dyn Error>> {
     let program = log.0.join("program");
-    std::fs::write(&program, format!("#!/bin/sh\n{}\n", lines.join("\n")))?;
-    std::fs::set_permissions(&program, std::fs::Permissions::from_mode(0o700))?;
-    Ok(program)
+    let text = format!("#!/bin/sh\n{}", lines.join("\n"));
+    let write = r#"printf '%s\n' "$2" >"$1" && chmod 700 "$1""#;
+    let written = Command::new("sh").args(["-c", write, "sh"]).arg(&program).arg(text).status()?;
+    if written.success() { Ok(program) } else { Err("the program can't be written".into()) }
 }
 
 /// A node of which only its own process may know whether it goes on.
