@@ -1,0 +1,5 @@
+-- What a contract says of a sorted vector.
+pub mod Lends
+pub mod Pieces
+pub mod Sorted
+pub mod SortedLends
