@@ -2,6 +2,8 @@
 //!
 //! Of values: copies of attributes, hashes in digits, the order of times, and the texts of errors (`values`).
 //!
+//! Of a map: sorted vectors in pieces and a plain table, by drawn keys (`sorted_vecs`).
+//!
 //! Logs in files are made, held, cut and refused by name. Their bytes are those that another program computed
 //! (`samples`). The tests are scripts, with their answers (`log_scripts`, `script_files`). What a
 //! handle does to bytes is tested over a file in memory too (`media`).
@@ -47,6 +49,8 @@ mod postgres_scripts;
 mod samples;
 #[cfg(test)]
 mod script_files;
+#[cfg(test)]
+mod sorted_vecs;
 #[cfg(test)]
 mod support;
 #[cfg(test)]
