@@ -1,3 +1,5 @@
+pub mod BothKeys
+pub mod Boths
 pub mod Gaps
 pub mod Hints
 pub mod Index

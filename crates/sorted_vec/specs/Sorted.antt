@@ -1,10 +1,11 @@
 -- What a contract sees of a `SortedVec`.
-use Rattle.std.specs.Prelude.{◌≡◌, ℕ, ◌+◌, ◌<◌, ◌≤◌, true, List, length, refl, Result, Ok, Err}
+use Rattle.std.specs.Prelude.{◌≡◌, ℕ, ◌+◌, ◌<◌, ◌≤◌, Bool, true, is_ok, List, length, drop, refl, Result, Ok, Err}
 use Rattle.std.specs.Coded.{Coded, code_by, coded×, coded_ℕ, coded_list}
 use Rattle.std.specs.declared.cmp.Ordering.{Ordering}
 use Rattle.std.specs.declared.cmp.Ordering.TheVariants.{Less}
-use Rattle.std.specs.FinMap.{FinMap, is_sorted}
-use Rattle.finite_map.specs.Places.{LessBefore}
+use Rattle.std.specs.FinMap.{FinMap, entries, is_sorted}
+use Rattle.sorted_vec.specs.declared.sorted.Place.{Place}
+use Rattle.finite_map.specs.Places.{LessBefore, rank}
 use Rattle.finite_map.specs.Sorted.{Sorted, sorted_code}
 use Rattle.finite_map.specs.Chunks.{flat, chunk_at, before, chunked, first_order}
 use Rattle.finite_map.specs.Chunks.{StandsIn, IsChunkOf, IsShaped, HasRoomIn, IsCountable}
@@ -36,6 +37,10 @@ abbrev pub IsBehindOthers : ℕ → Result ℕ ℕ → Type 0
 IsBehindOthers i (Ok at) = Unit {0}
 IsBehindOthers i (Err at) = at ≡ 0 → i ≡ 0
 
+-- it is the place of a key that stood there
+abbrev pub is_there : Place → Bool
+is_there place = is_ok place.at
+
 -- the index of a place in its piece
 abbrev pub index_of : Result ℕ ℕ → ℕ
 index_of (Ok at) = at
@@ -45,6 +50,10 @@ module _ {K V : Type 0} (R : K → K → Ordering) where
   -- the map that it is
   abbrev pub map_of : Stored K V → FinMap R V
   map_of s = chunked R s.pieces
+
+  -- the entries of a map whose keys aren't less
+  abbrev pub IsFrom : K → FinMap R V → List (K × V) → Type 0
+  IsFrom k m es = es ≡ drop (rank R k (entries m)) (entries m)
 
   -- the place of the key: the piece, and where the key stands in it, or would stand
   abbrev pub IsPlace : Stored K V → K → ℕ → Result ℕ ℕ → Type 0
@@ -60,5 +69,5 @@ module _ {K V : Type 0} (R : K → K → Ordering) where
       × LessBefore R k (flat cs) (before cs i + at) × (at ≡ 0 → i ≡ 0)
 
   -- the key can be put there with no allocation
-  abbrev pub HasRoomFor : Stored K V → K → Type 0
+  unfoldable pub HasRoomFor : Stored K V → K → Type 0
   HasRoomFor s k = (i at : ℕ) → IsPlace s k i (Err at) → HasRoomIn s.pieces i s.most × IsCountable s.pieces

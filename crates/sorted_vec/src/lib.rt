@@ -7,8 +7,11 @@
 //! What is asked for first takes no memory later: after `reserve_at` granted a key, putting it there needs none
 //! (`HasRoomFor`). It is refused only for a key that is absent and has no room. A removal takes none. A place that a
 //! search found is a hint for later: where another key stands now, it is searched for again.
+//!
+//! `Walk` comes to the entries by rising key, and `Both` to the keys of two maps (`both_of`).
 #![tactic(auto)]
 
+pub mod both;
 mod piece;
 mod pieces;
 pub mod sorted;

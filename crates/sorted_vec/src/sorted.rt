@@ -1,8 +1,8 @@
 //! A map as a vector in the order of its keys, whole or in pieces.
 
-ghost use Rattle.std.specs.Prelude.{◌≡◌, ◌<◌, ◌≤◌, ◌+◌, ℕ, length, drop, slice_index_or};
+ghost use Rattle.std.specs.Prelude.{◌≡◌, ◌<◌, ◌≤◌, ◌+◌, ℕ, length, slice_index_or};
 ghost use Rattle.std.specs.Prelude.{Some, None, Ok, Err, IfOk, IfErr, OnOk, OnErr, IsTrue};
-ghost use Rattle.std.specs.Prelude.{is_ok, is_some};
+ghost use Rattle.std.specs.Prelude.{is_some};
 ghost use Rattle.std.specs.FinMap as map;
 ghost use Rattle.std.specs.FinMap.{IsAntisymmetric};
 ghost use Rattle.std.specs.Option.{option_copied, option_copied_mut, OnSome};
@@ -10,8 +10,7 @@ ghost use Rattle.std.specs.Borrow.{sem, LendsSo};
 ghost use Rattle.std.specs.List.{remove as list_remove};
 ghost use Rattle.std.specs.Map.Iter.{ShowsInOrder, deref};
 ghost use Rattle.finite_map.specs.Chunks.{flat, before, chunk_at, IsIn, IsShaped, IsOpenAt};
-ghost use Rattle.finite_map.specs.Places.{rank};
-ghost use Rattle.sorted_vec.specs.Sorted.{map_of, index_of, HasRoomFor};
+ghost use Rattle.sorted_vec.specs.Sorted.{map_of, index_of, is_there, HasRoomFor, IsFrom};
 ghost use Rattle.sorted_vec.specs.Sorted.{IsPlace, IsPieceOf, IsBehindOthers, IsBehindLess};
 
 use crate::pieces::Pieces;
@@ -30,7 +29,7 @@ pub struct Place {
 impl Place {
     /// Returns true if the key stood there.
     pub fn is_there(self) -> bool
-        ensures { result ≡ is_ok self.at }
+        ensures { result ≡ is_there self }
     {
         self.at.is_ok()
     }
@@ -173,7 +172,7 @@ impl<K: Ord + Copy + Drop, V> SortedVec<K, V> {
     /// Where the key stands, or where it would go, by halving the pieces and then a piece.
     pub fn place_of(&self, key: &K) -> Place
         ensures place { IsPlace K.cmp self.now key.now result.piece result.at }
-        ensures there { is_ok result.at ≡ is_some (map.get (map_of K.cmp self.now) key.now) }
+        ensures there { is_there result ≡ is_some (map.get (map_of K.cmp self.now) key.now) }
     {
         match self.piece_of(key) {
             Ok(other) => Place {
@@ -272,8 +271,7 @@ impl<K: Ord + Copy + Drop, V> SortedVec<K, V> {
 
     /// The entries whose keys aren't less than a key, by rising key.
     pub fn walk_from(&self, key: &K) -> Walk<'_, K, V>
-        ensures rest { result ≡ drop (rank K.cmp key.now (map.entries (map_of K.cmp self.now)))
-            (map.entries (map_of K.cmp self.now)) }
+        ensures rest { IsFrom K.cmp key.now (map_of K.cmp self.now) result }
         ensures runs { ShowsInOrder (deref {X = K × V}) }
     {
         let place = self.place_of(key);
@@ -335,6 +333,7 @@ impl<K: Ord + Copy + Drop, V> SortedVec<K, V> {
 
 impl<K: Ord + Copy + Drop, V: Drop> SortedVec<K, V> {
     // Asks for room for a key at a gap, and gives its place then.
+    #[tactic(auto, unfolding(crate::specs::Sorted::HasRoomFor))]
     fn reserve_gap(&mut self, key: &K, piece: usize, at: usize) -> Result<Place, AllocError>
         requires { IsPlace K.cmp self.old key.now piece (Err at) }
         ensures same { map_of K.cmp self.new ≡ map_of K.cmp self.old }
@@ -353,6 +352,7 @@ impl<K: Ord + Copy + Drop, V: Drop> SortedVec<K, V> {
     /// Asks for what an insertion of the key needs, and gives its place then. It needs room for one more if it is
     /// absent, and else nothing. `AllocError` comes only if the key is absent and has no room. The entries stay as they
     /// are.
+    #[tactic(auto, unfolding(crate::specs::Sorted::HasRoomFor))]
     pub fn reserve_at(&mut self, key: &K, hint: Place) -> Result<Place, AllocError>
         ensures same { map_of K.cmp self.new ≡ map_of K.cmp self.old }
         ensures place { IfOk result (λ place. IsPlace K.cmp self.new key.now place.piece place.at) }

@@ -1,5 +1,6 @@
 use Rattle.std.proofs.Common.{arith, ◌<◌, ◌-◌, ◌^◌}
 use Rattle.sorted_vec.proofs.Gaps.{roomy_map, roomy_kept, roomy_stands, has_room}
+use Rattle.sorted_vec.specs.Sorted.{HasRoomFor}
 use Rattle.sorted_vec.proofs.sorted.SortedVec.reserve_gap.Goals as goal
 
 pub invariant_of-self-in_err-reserve : goal.invariant_of-self-in_err-reserve
@@ -29,6 +30,7 @@ returns-clause-place g c =
     (roomy_stands g.K.Ord.cmp c.self.inside.pieces c.open_gap.new.pieces c.reserve.new.self c.self.inside.most c.self.inside.count c.self.invariant told.same told.shaped c.in_ok-piece.piece c.in_ok-piece.at told.fits c.reserve.ensures.only c.reserve.ensures.same c.args.key.now c.args.piece c.args.at place.0 told.place.0, told.place.1)
 
 pub returns-clause-room : goal.returns-clause-room
+unfolding HasRoomFor
 returns-clause-room g c =
     let told = c.in_ok-piece.ensures in
     let place = rw (← c.self.view_is) at c.requires in
