@@ -61,6 +61,17 @@ def check_launched(site, what, words, wanted, status=FAULT, **environment):
     site.checks.need(fine, f"{what}: {ran}")
 
 
+def write_program(path, text):
+    """Writes a program. Another process does that: what this one has open to write, a process that another thread begins has
+    open too for a moment, and a file that is open to write can't be started (ETXTBSY)."""
+    subprocess.run(["install", "-m", "755", "/dev/stdin", path], input=text, text=True, check=True)
+
+
+def copy_program(program, path):
+    """Copies a program, by another process for the same reason."""
+    subprocess.run(["install", "-m", "755", program, path], check=True)
+
+
 def words_refused(site):
     """What the launcher refuses of its arguments, without a server."""
     usage = ["usage: wulameron-postgres"]
@@ -79,8 +90,7 @@ def told_program(site, room):
     """Which program is run, with which words, of whatever way the database is named."""
     checks, server = site.checks, site.server
     program = room / "told"
-    program.write_text(TELLING)
-    program.chmod(0o755)
+    write_program(program, TELLING)
     ways = [["-d", DATABASE], [f"-d{DATABASE}"], [f"--dbname={DATABASE}"], ["--dbname", f"dbname={DATABASE}"],
             ["-d", f"postgresql:///{DATABASE}"], ["-d", f"postgres:///{DATABASE}?user=lamps"], [],
             ["-h", str(server.folder), "-p", str(server.port), "-U", "lamps", "-w"],
@@ -90,8 +100,8 @@ def told_program(site, room):
         told = rf"list --psql {':'.join([PIPE] * 4)} --at postgres:x"
         fine = ran.status == 0 and re.fullmatch(told, ran.out[0])
         checks.need(fine and ran.out[1:] == [f"{DATABASE}|lamps|wulameron", "done"], f"by {words}: {ran}")
-    shutil.copy(site.words("x", "x")[0], room / "wulameron-postgres")
-    shutil.copy(program, room / "wulameron")
+    copy_program(site.words("x", "x")[0], room / "wulameron-postgres")
+    copy_program(program, room / "wulameron")
     for folder, environment in ((room, {}), ("/usr/bin", {"PATH": f"{room}:{os.environ['PATH']}"})):
         launcher = [str(room / "wulameron-postgres") if folder == room else site.words("x", "x")[0]]
         found = {key: value for key, value in site.environment(**environment).items() if key != "WULAMERON"}
@@ -163,8 +173,7 @@ def psql_refused(site, room):
     for text, wanted in (("echo 140009", ["an old version", later]), ("echo :VERSION_NUM", ["an old version", later]),
                          ("exit 1", ["psql failed"]), (told_by_psql("the database system is starting up"), [AGAIN]),
                          (told_by_psql("sorry, too many clients already"), ["max_connections"])):
-        (folder / "psql").write_text(f"#!/bin/sh\n{text}\n")
-        (folder / "psql").chmod(0o755)
+        write_program(folder / "psql", f"#!/bin/sh\n{text}\n")
         check_launched(site, text, ["list"], wanted, PATH=str(folder))
     check_launched(site, "no program", ["list"], ["there is no program /nowhere/x", "WULAMERON"], WULAMERON="/nowhere/x")
 
@@ -176,7 +185,8 @@ def itself_refused(site, room):
     for name in (launcher.name, "link", "wulameron"):
         (folder / name).symlink_to(launcher)
     (folder / "again").symlink_to("link")
-    os.link(shutil.copy(launcher, folder / "copy"), folder / "hard")
+    copy_program(launcher, folder / "copy")
+    os.link(folder / "copy", folder / "hard")
     path, winding = f"{folder}:{os.environ['PATH']}", launcher.parent / ".." / launcher.parent.name / launcher.name
     for name in (launcher.name, launcher, winding, "again", folder / "link"):
         wanted = [f"the program {name} is this launcher", "unset WULAMERON"]
